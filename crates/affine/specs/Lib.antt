@@ -1,0 +1,4 @@
+pub mod Gcd
+pub mod Hull
+pub mod Map
+pub mod Point
