@@ -1,3 +1,4 @@
+pub mod Function
 pub mod Gcd
 pub mod Hull
 pub mod Map

@@ -1,7 +1,9 @@
 ghost use Rattle.std.specs.Prelude.{◌≡◌, ◌^◌, ◌≤◌, pos, neg_ℤ, ◌<ℤ◌, ◌≤ℤ◌, unsigned_abs};
+ghost use Rattle.affine.specs.Function.{IsInRange, function_map};
 ghost use Rattle.affine.specs.Map.{identity_map, translation, scaling, quarter_turns, lowest_terms};
 
 use crate::map::{Map, Parts, narrow_map};
+use computed_style::Function;
 
 /// The map that moves no point.
 pub fn identity() -> Map
@@ -67,6 +69,35 @@ pub fn quarter(turns: u8) -> Map
         1 => turned(0, 1),
         2 => turned(-1, 0),
         _ => turned(0, -1),
+    }
+}
+
+/// The map of one transform function, whose numbers are in the ranges of a script. CSS Transforms 1, section 12.
+pub fn matrix(function: &Function) -> Map
+    requires { IsInRange function.now }
+    ensures { result ≡ function_map function.now }
+{
+    match *function {
+        Function::Matrix {
+            a,
+            b,
+            c,
+            d,
+            e,
+            f,
+            q,
+        } => narrow_map(&Parts {
+            a: i128::from(a),
+            b: i128::from(b),
+            c: i128::from(c),
+            d: i128::from(d),
+            e: i128::from(e),
+            f: i128::from(f),
+            q: i128::from(q),
+        }),
+        Function::Translate { x, y } => translate(x, y, 1),
+        Function::Scale { x, y, q } => scale(x, y, q),
+        Function::Quarter { turns } => quarter(turns),
     }
 }
 

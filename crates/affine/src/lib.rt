@@ -8,7 +8,7 @@
 // preimage, rounded down, and None exactly where the map is singular; and that a hull is the least rectangle of whole
 // units that holds every image of a closed rectangle, met with a region. specs/Point.antt says what a map means as a
 // function on pairs of exact fractions, and the contracts tie the parts to that meaning.
-// It stands on fractions.
+// It stands on fractions and on the transform functions of computed_style.
 #![tactic(auto)]
 
 mod functions;
@@ -16,7 +16,7 @@ mod hulls;
 mod map;
 mod points;
 
-pub use functions::{identity, quarter, scale, translate};
+pub use functions::{identity, matrix, quarter, scale, translate};
 pub use hulls::hull;
 pub use map::{Map, Parts, compose, from_parts};
 pub use points::{is_singular, local};

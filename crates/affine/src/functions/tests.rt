@@ -42,3 +42,48 @@ fn makes_the_maps_of_transform_functions(rt: HostRuntime) {
         assert_eq!(rt; numbers(&made), want);
     }
 }
+
+#[test]
+fn makes_the_map_of_a_function(rt: HostRuntime) {
+    let cases = [
+        (
+            matrix(&Function::Matrix {
+                a: 3,
+                b: 4,
+                c: -4,
+                d: 3,
+                e: 0,
+                f: 0,
+                q: 5,
+            }),
+            [3, 4, -4, 3, 0, 0, 5],
+        ),
+        (
+            matrix(&Function::Matrix {
+                a: 2,
+                b: -4,
+                c: 6,
+                d: -8,
+                e: 1 << 40,
+                f: -(1 << 40),
+                q: 2,
+            }),
+            [1, -2, 3, -4, 1 << 39, -(1 << 39), 1],
+        ),
+        (
+            matrix(&Function::Translate { x: 64, y: -64 }),
+            [1, 0, 0, 1, 64, -64, 1],
+        ),
+        (
+            matrix(&Function::Scale { x: 6, y: -4, q: 4 }),
+            [3, 0, 0, -2, 0, 0, 2],
+        ),
+        (
+            matrix(&Function::Quarter { turns: 3 }),
+            [0, -1, 1, 0, 0, 0, 1],
+        ),
+    ];
+    for (made, want) in cases {
+        assert_eq!(rt; numbers(&made), want);
+    }
+}
