@@ -1,0 +1,26 @@
+-- The lines of a script.
+use Rattle.std.specs.Prelude.{ℕ, List, [], ◌∷◌, ◌++◌, Bool, true, false, ◌||◌, ◌&&◌, ◌==◌, if◌then◌else◌}
+
+-- a byte put before the first of some lines, where there is none as a line of its own
+abbrev pub onto_first : ℕ → List (List ℕ) → List (List ℕ)
+onto_first byte [] = (byte ∷ []) ∷ []
+onto_first byte (line ∷ lines) = (byte ∷ line) ∷ lines
+
+-- The pieces between newline bytes. The last one counts where it isn't empty.
+unfoldable pub lines : List ℕ → List (List ℕ)
+lines [] = []
+lines (byte ∷ bytes) = if byte == 10 then [] ∷ lines bytes else onto_first byte (lines bytes)
+
+unfoldable pub has_newline : List ℕ → Bool
+has_newline [] = false
+has_newline (byte ∷ bytes) = (byte == 10) || has_newline bytes
+
+-- The bytes up to and with the last newline, and none where there is no newline.
+unfoldable pub whole_lines : List ℕ → List ℕ
+whole_lines [] = []
+whole_lines (byte ∷ bytes) = if has_newline (byte ∷ bytes) then byte ∷ whole_lines bytes else []
+
+-- Only spaces, tabs and carriage returns.
+unfoldable pub is_blank : List ℕ → Bool
+is_blank [] = true
+is_blank (byte ∷ bytes) = ((byte == 32) || (byte == 9) || (byte == 13)) && is_blank bytes

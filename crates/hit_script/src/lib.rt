@@ -1,0 +1,11 @@
+// The script program: lines of JSON in, one reply line each out, over any source, any sink and any
+// desk that keeps the page.
+#![tactic(auto)]
+
+mod outcome;
+mod sinks;
+mod sources;
+
+pub use outcome::Status;
+pub use sinks::{Sink, SinkFault, StdSink, Taken};
+pub use sources::{Bytes, Calm, Failed, Source, StdSource};
