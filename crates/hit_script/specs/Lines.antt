@@ -1,4 +1,5 @@
 -- The lines of a script.
+use Rattle.std.specs.List.{list_all}
 use Rattle.std.specs.Prelude.{ℕ, List, [], ◌∷◌, ◌++◌, Bool, true, false, ◌||◌, ◌&&◌, ◌==◌, if◌then◌else◌}
 
 -- a byte put before the first of some lines, where there is none as a line of its own
@@ -20,7 +21,10 @@ unfoldable pub whole_lines : List ℕ → List ℕ
 whole_lines [] = []
 whole_lines (byte ∷ bytes) = if has_newline (byte ∷ bytes) then byte ∷ whole_lines bytes else []
 
+-- a space, a tab or a carriage return
+abbrev pub is_blank_byte : ℕ → Bool
+is_blank_byte byte = (byte == 32) || (byte == 9) || (byte == 13)
+
 -- Only spaces, tabs and carriage returns.
-unfoldable pub is_blank : List ℕ → Bool
-is_blank [] = true
-is_blank (byte ∷ bytes) = ((byte == 32) || (byte == 9) || (byte == 13)) && is_blank bytes
+abbrev pub is_blank : List ℕ → Bool
+is_blank line = list_all is_blank_byte line

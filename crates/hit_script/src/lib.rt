@@ -2,10 +2,13 @@
 // desk that keeps the page.
 #![tactic(auto)]
 
+mod command;
 mod outcome;
+mod reading;
 mod sinks;
 mod sources;
 
+pub use command::{Command, LineFault, command_of, is_blank};
 pub use outcome::Status;
 pub use sinks::{Sink, SinkFault, StdSink, Taken};
 pub use sources::{Bytes, Calm, Failed, Source, StdSource};
