@@ -5,10 +5,12 @@
 mod command;
 mod outcome;
 mod reading;
+mod reply;
 mod sinks;
 mod sources;
 
 pub use command::{Command, LineFault, command_of, is_blank};
 pub use outcome::Status;
+pub use reply::{OutOfMemory, Reply, print};
 pub use sinks::{Sink, SinkFault, StdSink, Taken};
 pub use sources::{Bytes, Calm, Failed, Source, StdSource};
