@@ -3,3 +3,4 @@ pub mod Lines
 pub mod Outcome
 pub mod Command
 pub mod Reply
+pub mod Script

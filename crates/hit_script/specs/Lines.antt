@@ -21,6 +21,11 @@ unfoldable pub whole_lines : List ℕ → List ℕ
 whole_lines [] = []
 whole_lines (byte ∷ bytes) = if has_newline (byte ∷ bytes) then byte ∷ whole_lines bytes else []
 
+-- The bytes behind the last newline, and all of them where there is no newline.
+unfoldable pub unfinished : List ℕ → List ℕ
+unfinished [] = []
+unfinished (byte ∷ bytes) = if has_newline (byte ∷ bytes) then unfinished bytes else byte ∷ bytes
+
 -- a space, a tab or a carriage return
 abbrev pub is_blank_byte : ℕ → Bool
 is_blank_byte byte = (byte == 32) || (byte == 9) || (byte == 13)

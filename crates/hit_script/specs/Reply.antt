@@ -1,6 +1,7 @@
 -- The lines that replies are.
 use Rattle.std.specs.Prelude.{ℕ, List, [], ◌∷◌, ◌++◌, codes, decimal, Option, Some, None, length, take, ◌≡◌}
 use Rattle.std.specs.List.{flat_map}
+use Rattle.box_tree.specs.declared.edit.EditFault.{EditFault}
 use Rattle.box_tree.specs.declared.edit.EditFault.TheVariants as edit_fault
 use Rattle.box_tree.specs.Edited.{fault_number, fault_name}
 use Rattle.hit_script.specs.declared.command.LineFault.{LineFault}
@@ -39,13 +40,27 @@ listed id = 32 ∷ decimal id
 abbrev pub hit_line : List ℕ → List ℕ
 hit_line ids = line_of (codes "hit" ++ flat_map listed ids)
 
+-- the line of an accepted add, by the id of the new node
+abbrev pub node_line : ℕ → List ℕ
+node_line id = line_of (codes "node " ++ decimal id)
+
+-- the line of any other accepted edit
+abbrev pub done_line : List ℕ
+done_line = line_of (codes "ok")
+
+abbrev pub line_fault_line : LineFault → List ℕ
+line_fault_line why = fault_line (line_fault_number why) (line_fault_name why)
+
+abbrev pub edit_fault_line : EditFault → List ℕ
+edit_fault_line why = fault_line (fault_number why) (fault_name why)
+
 -- the line of a reply, its numbers in decimal without leading zeros
 abbrev pub reply_line : Reply → List ℕ
-reply_line (Node id) = line_of (codes "node " ++ decimal id)
-reply_line Done = line_of (codes "ok")
+reply_line (Node id) = node_line id
+reply_line Done = done_line
 reply_line (Hit ids) = hit_line ids.now
-reply_line (Line why) = fault_line (line_fault_number why) (line_fault_name why)
-reply_line (Edit why) = fault_line (fault_number why) (fault_name why)
+reply_line (Line why) = line_fault_line why
+reply_line (Edit why) = edit_fault_line why
 
 -- the reply is no want of memory, which has no line
 abbrev pub HasLine : Reply → Type 0

@@ -34,7 +34,7 @@ pub enum LineFault {
 }
 
 /// The most bytes that a line may have without its newline.
-const LONGEST_LINE: usize = 1 << 20;
+pub(crate) const LONGEST_LINE: usize = 1 << 20;
 
 /// Whether a line has only spaces, tabs and carriage returns. Such a line has no reply.
 pub fn is_blank(line: &[u8]) -> bool

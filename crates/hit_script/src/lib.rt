@@ -2,14 +2,18 @@
 // desk that keeps the page.
 #![tactic(auto)]
 
+mod answers;
 mod command;
+mod desks;
 mod outcome;
 mod reading;
 mod reply;
 mod sinks;
 mod sources;
+mod turns;
 
 pub use command::{Command, LineFault, command_of, is_blank};
+pub use desks::Desk;
 pub use outcome::Status;
 pub use reply::{OutOfMemory, Reply, print};
 pub use sinks::{Sink, SinkFault, StdSink, Taken};
