@@ -10,6 +10,7 @@ mod reading;
 mod reply;
 mod sinks;
 mod sources;
+mod transfer;
 mod turns;
 
 pub use command::{Command, LineFault, command_of, is_blank};

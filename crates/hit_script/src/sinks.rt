@@ -1,6 +1,7 @@
 ghost use Rattle.std.specs.Prelude.{◌≡◌, ◌≢◌, ◌↔◌, min, Contains, ℕ, List, ◌++◌, ◌<◌, ◌≤◌, Option, Some, None, option_map, IfOk, OnErr, length, take};
-ghost use Rattle.hit_script.specs.Ends.{Rose, count_up};
+ghost use Rattle.hit_script.specs.Ends.{Rose, TakesAll, count_up};
 
+use crate::reply::OutOfMemory;
 use std::io;
 
 /// Why a write took nothing.
@@ -10,6 +11,16 @@ pub enum SinkFault {
     Failed,
     /// The sink found no memory for the bytes.
     OutOfMemory,
+}
+
+impl From<OutOfMemory> for SinkFault {
+    ghost use Rattle.hit_script.specs.declared.sinks.SinkFault.TheVariants.{OutOfMemory as memory_wanting};
+
+    ghost from_gives = { λ _ fault. fault ≡ memory_wanting };
+
+    fn from(_error: OutOfMemory) -> SinkFault {
+        SinkFault::OutOfMemory
+    }
 }
 
 /// Where the replies go.
@@ -24,7 +35,7 @@ pub trait Sink {
     fn write(&mut self, piece: &[u8]) -> Result<usize, SinkFault>
         ensures within { IfOk result (λ n. n ≤ length piece.now) }
         ensures some { 0 < length piece.now → IfOk result (λ n. 0 < n) }
-        ensures taken { IfOk result (λ n. taken self.new ≡ option_map (λ bytes. bytes ++ take n piece.now) (taken self.old)) }
+        ensures taken { IfOk result (λ n. TakesAll (taken self.old) (taken self.new) (take n piece.now)) }
         ensures failed { result ≡ Err SinkFault.Failed → Rose (faults self.old) (faults self.new) }
         ensures unchanged { OnErr result (taken self.new ≡ taken self.old) }
         ensures never_falls { faults self.old ≤ faults self.new };
