@@ -1,0 +1,176 @@
+-- The page with a node more: what no fault means, that it is valid, and that it is what the nodes then mean.
+use Rattle.std.proofs.Common.{◌≡◌, ◌≢◌, ◌⊎◌, ℕ, zero, suc, ◌+◌, ◌<◌, ◌≤◌, ◌==◌, List, [], ◌∷◌, ◌++◌, length, get_or, set, slice_get, Option, Some, None, is_some, true, false, Bool, if◌then◌else◌, not, refl, sym, ap, ◌∙◌, subst, inl, inr, arith}
+use Rattle.std.specs.Prelude.{All, ◌||◌}
+use Rattle.std.specs.Option.{option_or, option_map, option_map_or}
+use Rattle.std.specs.List.{insert}
+use Rattle.std.proofs.lemmas.Bool.{cases_lt, cases_eq}
+use Rattle.std.proofs.lemmas.Bool.Decides.{nat_tests}
+use Rattle.box_tree.specs.declared.kind.Kind.{Kind}
+use Rattle.box_tree.specs.declared.piece.Piece.{Piece}
+use Rattle.box_tree.specs.declared.node.Node.{Node}
+use Rattle.box_tree.specs.declared.edit.Edit.TheVariants.{Add}
+use Rattle.box_tree.specs.declared.edit.EditFault.{EditFault}
+use Rattle.box_tree.specs.Forest.{Label, End, node_count, occurrences}
+use Rattle.box_tree.specs.Contents.{Contents, node_at, node_of, has_id, depth_below, boxes_suit, IsBoxInRange, IsSuited, IsGiven, IsValid}
+use Rattle.box_tree.specs.Edited.{first_of, faults_of, first_fault, put_below, ancestors_below, child_count}
+use Rattle.box_tree.specs.Kept.{IsKept}
+use Rattle.box_tree.proofs.ForestLemmas.{single, node_in, with_child, placed_in-absent, roots-put_below, occurrences-put_below, node_count-put_below, node_in-put_below, node_in-absent}
+use Rattle.box_tree.proofs.KeptLemmas.{node_with-at, node_with-push, node_with-set, rising-set, rising-push, id_at-set}
+use Rattle.std.proofs.Common.{length-append}
+use Rattle.std.proofs.Math.ListN.{length-set}
+use Rattle.box_tree.proofs.PutLemmas.{given-absent, each-put_below, each-map, height-put_below}
+use mathlib.Core.Bool.{false≢true}
+
+-- no test of the table holds
+abbrev pub NoneHolds : List (Bool × EditFault) → Type 0
+NoneHolds [] = Unit {0}
+NoneHolds ((holds, why) ∷ others) = (holds ≡ false) × NoneHolds others
+
+pub none_holds : (tests : List (Bool × EditFault)) → first_of tests ≡ None → NoneHolds tests
+none_holds [] none = tt
+none_holds ((false, why) ∷ others) none = (refl, none_holds others none)
+none_holds ((true, why) ∷ others) none = absurd cc
+
+-- an add without a fault
+pub record MayAdd (page : Contents) (parent at : ℕ) (boxes : List Piece) : Type 0 where
+  pub present : (parent ≡ 0) ⊎ (has_id page parent ≡ true)
+  pub root : parent ≡ 0 → node_count page.tree ≡ 0
+  pub suits : boxes_suit (ancestors_below page parent) boxes ≡ true
+  pub place : at ≤ child_count page parent
+  pub depth : depth_below (ancestors_below page parent) ≤ 256
+  pub nodes : node_count page.tree < 65536
+  pub next : page.next ≤ 1048576
+
+pub may_add : (page : Contents) (parent at : ℕ) (kind : Kind) (boxes : List Piece) → first_fault page (Add parent at kind boxes) ≡ None → MayAdd page parent at boxes
+may_add page parent at kind boxes none =
+    let tests = none_holds (faults_of page (Add parent at kind boxes)) none in
+    record {
+      present = elim (cases_eq parent 0) [
+        | inl none_named ↦ inl none_named
+        | inr other ↦ inr (present_in (has_id page parent) tests.0 other)
+      ];
+      root = λ is. grind (arith, nat_tests, tests.1.0);
+      suits = not_false (boxes_suit (ancestors_below page parent) boxes) tests.1.1.0;
+      place = grind (arith, nat_tests, tests.1.1.1.0);
+      depth = grind (arith, nat_tests, tests.1.1.1.1.0);
+      nodes = grind (arith, nat_tests, tests.1.1.1.1.1.0);
+      next = grind (arith, nat_tests, tests.1.1.1.1.1.0);
+    }
+  where
+    not_false : (b : Bool) → not b ≡ false → b ≡ true
+    not_false true is = refl
+    not_false false is = absurd cc
+
+    present_in : (has : Bool) → not (parent == 0 || has) ≡ false → parent ≢ 0 → has ≡ true
+    present_in true is other = refl
+    present_in false is other = absurd (grind (arith, nat_tests))
+
+-- an id that is in a valid page stands there once
+pub once_there : (page : Contents) (id : ℕ) → IsValid page → has_id page id ≡ true → occurrences page.tree id ≡ 1
+once_there page id valid there = elim (cases_lt 0 (occurrences page.tree id)) [
+  | inl some ↦ omega (arith, valid.distinct id)
+  | inr few ↦ absurd (false≢true (ap is_some (sym (placed_in-absent page.tree [] id (omega arith))) ∙ there))
+]
+
+-- nothing is below the node 0
+pub ancestors_below-none : (page : Contents) → IsValid page → ancestors_below page 0 ≡ []
+ancestors_below-none page valid = ap (λ p. option_map_or (λ q. q.label ∷ q.above) p []) (placed_in-absent page.tree [] 0 (given-absent page.tree [] page.next 0 valid.given (inl refl)))
+
+module _ (page : Contents) (valid : IsValid page) (parent at : ℕ) (kind : Kind) (boxes : List Piece) (in_range : All IsBoxInRange boxes) (may : MayAdd page parent at boxes) where
+  abbrev label : Label
+  label = record { id = page.next; kind = kind; boxes = boxes }
+
+  -- the new id was not given yet
+  new_absent : occurrences page.tree page.next ≡ 0
+  new_absent = given-absent page.tree [] page.next page.next valid.given (inr (omega arith))
+
+  new_given : (above : List Label) → IsGiven (page.next + 1) above label
+  new_given above = record { positive = valid.next.0; below_next = omega arith }
+
+  new_suited : IsSuited (ancestors_below page parent) label
+  new_suited = record { boxes = may.suits; in_range = in_range }
+
+  -- as the root
+  valid-root : parent ≡ 0 → IsValid (record page { tree = single label End; next = page.next + 1 })
+  valid-root none_named = record {
+    one_tree = omega arith;
+    distinct = λ id. grind (arith, nat_tests);
+    given = (new_given [], (tt, tt));
+    suited = (subst (λ above. IsSuited above label) (ap (ancestors_below page) none_named ∙ ancestors_below-none page valid) new_suited, (tt, tt));
+    depth = omega arith;
+    nodes = omega arith;
+    next = (omega arith, omega (arith, may.next));
+    viewport = valid.viewport;
+  }
+
+  -- as a child
+  valid-below : has_id page parent ≡ true → IsValid (record page { tree = put_below parent at label End page.tree; next = page.next + 1 })
+  valid-below there =
+      let once = once_there page parent valid there in
+      record {
+        one_tree = rw (roots-put_below page.tree parent at label End) valid.one_tree;
+        distinct = λ id. rw (occurrences-put_below page.tree parent at label End id once) (grind (arith, nat_tests, new_absent, valid.distinct id));
+        given = each-put_below (IsGiven (page.next + 1)) page.tree [] parent at label End once (each-map (IsGiven page.next) (IsGiven (page.next + 1)) (λ above n given. record { positive = given.positive; below_next = omega (arith, given.below_next) }) page.tree [] valid.given) (new_given _, (tt, tt));
+        suited = each-put_below IsSuited page.tree [] parent at label End once valid.suited (new_suited, (tt, tt));
+        depth = omega (arith, height-put_below page.tree [] parent at label End 256 once (omega (arith, valid.depth)) (omega (arith, may.depth)));
+        nodes = rw (node_count-put_below page.tree parent at label End once) (omega (arith, may.nodes));
+        next = (omega arith, omega (arith, may.next));
+        viewport = valid.viewport;
+      }
+
+  -- the new node as a reader sees it
+  abbrev pub added_node : Node
+  added_node = node_at (record { label = label; above = ancestors_below page parent; below = End })
+
+  -- looking the new node up in its tree
+  node_in-new : (above : List Label) (id : ℕ) → node_in above (single label End) id ≡ (if page.next == id then Some (node_at (record { label = label; above = above; below = End })) else None)
+  node_in-new above id = grind (arith, nat_tests)
+
+  -- the ids of the nodes were all given before
+  ids_given : (nodes : List Node) (first : Option ℕ) → IsKept nodes first page → (i : ℕ) (d : Node) → i < length nodes → (get_or nodes i d).id < page.next
+  ids_given nodes first kept i d within = elim (cases_lt (get_or nodes i d).id page.next) [
+    | inl before ↦ before
+    | inr late ↦ absurd (none_there nodes i d within
+        (sym (node_with-at nodes 0 i (get_or nodes i d).id d kept.rising within refl)
+        ∙ kept.looked_up (get_or nodes i d).id ∙ node_in-absent page.tree [] (get_or nodes i d).id (given-absent page.tree [] page.next (get_or nodes i d).id valid.given (inr late))))
+  ]
+    where
+      none_there : (ns : List Node) (j : ℕ) (e : Node) → j < length ns → slice_get ns j ≡ None → ⊥
+      none_there [] j e in_list none = omega arith
+      none_there (n ∷ ns) zero e in_list none = cc
+      none_there (n ∷ ns) (suc j) e in_list none = none_there ns j e (omega arith) none
+
+  -- the nodes of the page with the new one as the root
+  pub kept-root : parent ≡ 0 → (first : Option ℕ) (nodes : List Node) → IsKept nodes first page → IsKept (nodes ++ added_node ∷ []) (Some page.next) (record page { tree = single label End; next = page.next + 1 })
+  kept-root none_named first nodes kept =
+      let no_nodes : nodes ≡ [] = nothing_in nodes (kept.count ∙ may.root none_named) in
+      record {
+        valid = valid-root none_named;
+        looked_up = λ id. rw (no_nodes, node_in-new [] id) (ap (λ above. if page.next == id then Some (node_at (record { label = label; above = above; below = End })) else None) (ap (ancestors_below page) none_named ∙ ancestors_below-none page valid));
+        rising = rw no_nodes (valid.next.0, tt);
+        root = refl;
+        count = rw no_nodes (omega arith);
+      }
+    where
+      nothing_in : (ns : List Node) → length ns ≡ 0 → ns ≡ []
+      nothing_in [] none = refl
+      nothing_in (n ∷ ns) none = absurd (omega arith)
+
+  -- the nodes of the page with the new one as a child
+  pub kept-below : has_id page parent ≡ true → (first : Option ℕ) (nodes : List Node) (i : ℕ) (n : Node) → IsKept nodes first page → slice_get nodes i ≡ Some n → n.id ≡ parent →
+      IsKept (set nodes i (record n { children = insert n.children at page.next }) ++ added_node ∷ []) first (record page { tree = put_below parent at label End page.tree; next = page.next + 1 })
+  kept-below there first nodes i n kept is same =
+      let once = once_there page parent valid there in
+      let changed = set nodes i (record n { children = insert n.children at page.next }) in
+      record {
+        valid = valid-below there;
+        looked_up = λ id.
+            node_with-push changed added_node id
+            ∙ ap (λ found. option_or found (if page.next == id then Some added_node else None)) (node_with-set parent at page.next nodes 0 i id n kept.rising is same ∙ ap (option_map (with_child parent at page.next)) (kept.looked_up id))
+            ∙ ap (option_or (option_map (with_child parent at page.next) (node_of page id))) (sym (node_in-new (ancestors_below page parent) id))
+            ∙ sym (node_in-put_below page.tree [] parent at label End id once may.place (grind (arith, nat_tests, new_absent, valid.distinct id)));
+        rising = rising-push changed 0 added_node (rising-set nodes 0 i n _ kept.rising is refl) valid.next.0
+            (λ j d within. rw (id_at-set nodes i n (record n { children = insert n.children at page.next }) j d is refl) (ids_given nodes first kept j d (omega (arith, length-set nodes i (record n { children = insert n.children at page.next })))));
+        root = kept.root ∙ sym (roots-put_below page.tree parent at label End);
+        count = rw (node_count-put_below page.tree parent at label End once) (omega (arith, kept.count, length-append changed (added_node ∷ []), length-set nodes i (record n { children = insert n.children at page.next })));
+      }

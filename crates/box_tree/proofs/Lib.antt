@@ -1,0 +1,7 @@
+pub mod ForestLemmas
+pub mod Grown
+pub mod PutLemmas
+pub mod KeptLemmas
+pub mod KeptPages
+pub mod AddLemmas
+pub mod PlanLemmas

@@ -1,0 +1,116 @@
+-- The contents of a page, what is read of it, and when it is valid.
+use Rattle.std.specs.Prelude.{ℕ, ◌+◌, ◌<◌, ◌≤◌, ◌^◌, List, [], ◌∷◌, length, Option, Bool, not, ◌==◌, nat_le, is_some, IsTrue, ℤ, pos, ◌≤ℤ◌, ◌+ℤ◌, neg_ℤ, map, All}
+use Rattle.std.specs.List.{filter}
+use Rattle.std.specs.Option.{option_map}
+use Rattle.box_tree.specs.declared.piece.Piece.{Piece}
+use Rattle.box_tree.specs.declared.node.Node.{Node}
+use Rattle.box_tree.specs.declared.viewport.Viewport.{Viewport}
+use Rattle.box_tree.specs.Forest.{Label, Forest, End, roots_of, tree_order, node_count, height_of, occurrences, Placed, placed_in, EachNode}
+
+-- what a page holds: a tree of nodes or none, the viewport and the next id
+pub record Contents : Type 0 where
+  pub tree : Forest
+  pub viewport : Viewport
+  pub next : ℕ
+
+-- the number of nodes from the root to one with these ancestors
+abbrev pub depth_below : List Label → ℕ
+depth_below above = 1 + length above
+
+-- the id of the parent, and 0 for the root
+abbrev pub parent_id : List Label → ℕ
+parent_id [] = 0
+parent_id (parent ∷ above) = parent.id
+
+-- what a reader sees of a node in its place
+abbrev pub node_at : Placed → Node
+node_at p = record {
+  id = p.label.id;
+  kind = p.label.kind;
+  parent = parent_id p.above;
+  children = roots_of p.below;
+  depth = depth_below p.above;
+  boxes = p.label.boxes;
+}
+
+-- the place of an id in the page
+abbrev pub placed_of : Contents → ℕ → Option Placed
+placed_of page id = placed_in [] page.tree id
+
+-- what a reader sees of the node of an id
+abbrev pub node_of : Contents → ℕ → Option Node
+node_of page id = option_map node_at (placed_of page id)
+
+-- whether the id is in the page
+abbrev pub has_id : Contents → ℕ → Bool
+has_id page id = is_some (placed_of page id)
+
+-- whether a node has a box
+abbrev pub has_box : Label → Bool
+has_box n = not (length n.boxes == 0)
+
+-- the items in tree order, by the ids of their nodes: each node that has a box is one
+abbrev pub items_of : Contents → List ℕ
+items_of page = map (λ n. n.id) (filter has_box (tree_order page.tree))
+
+-- a page with no node, seen through an unscrolled viewport of these sides
+abbrev pub empty_page : ℤ → ℤ → Contents
+empty_page w h = record {
+  tree = End;
+  viewport = record { w = w; h = h; scroll = record { x = pos 0; y = pos 0 }; max = record { x = pos 0; y = pos 0 } };
+  next = 1;
+}
+
+-- from - 2 ^ bits to 2 ^ bits
+abbrev pub IsWithin : ℕ → ℤ → Type 0
+IsWithin bits x = (neg_ℤ (pos (2 ^ bits)) ≤ℤ x) × (x ≤ℤ pos (2 ^ bits))
+
+-- from 0 to 2 ^ bits
+abbrev pub IsSide : ℕ → ℤ → Type 0
+IsSide bits x = (pos 0 ≤ℤ x) × (x ≤ℤ pos (2 ^ bits))
+
+-- a span from an edge on within the limits, its end too
+pub record IsSpanInRange (from side : ℤ) : Type 0 where
+  pub start : IsWithin 26 from
+  pub length : IsSide 26 side
+  pub end : (from +ℤ side) ≤ℤ pos (2 ^ 26)
+
+-- a box within the limits: its two spans are
+pub record IsBoxInRange (box : Piece) : Type 0 where
+  pub across : IsSpanInRange box.l box.w
+  pub down : IsSpanInRange box.t box.h
+
+-- how many boxes suit a node with these ancestors: the root is a block with exactly one, every other block has at most one
+abbrev pub boxes_suit : List Label → List Piece → Bool
+boxes_suit [] boxes = length boxes == 1
+boxes_suit (parent ∷ above) boxes = nat_le (length boxes) 1
+
+-- a node suits its place
+pub record IsSuited (above : List Label) (n : Label) : Type 0 where
+  pub boxes : IsTrue (boxes_suit above n.boxes)
+  pub in_range : All IsBoxInRange n.boxes
+
+-- an id that was given
+pub record IsGiven (next : ℕ) (above : List Label) (n : Label) : Type 0 where
+  pub positive : 0 < n.id
+  pub below_next : n.id < next
+
+-- a viewport within the limits, whose scroll is between 0 and the greatest one
+pub record IsViewport (v : Viewport) : Type 0 where
+  pub width : (pos 1 ≤ℤ v.w) × (v.w ≤ℤ pos (2 ^ 20))
+  pub height : (pos 1 ≤ℤ v.h) × (v.h ≤ℤ pos (2 ^ 20))
+  pub max_x : IsSide 26 v.max.x
+  pub max_y : IsSide 26 v.max.y
+  pub scroll_x : (pos 0 ≤ℤ v.scroll.x) × (v.scroll.x ≤ℤ v.max.x)
+  pub scroll_y : (pos 0 ≤ℤ v.scroll.y) × (v.scroll.y ≤ℤ v.max.y)
+
+-- what holds of the contents of every page
+pub record IsValid (page : Contents) : Type 0 where
+  pub one_tree : length (roots_of page.tree) ≤ 1
+  pub distinct : (id : ℕ) → occurrences page.tree id ≤ 1
+  pub given : EachNode (IsGiven page.next) [] page.tree
+  pub suited : EachNode IsSuited [] page.tree
+  pub depth : height_of page.tree ≤ 256
+  pub nodes : node_count page.tree ≤ 65536
+  pub next : (0 < page.next) × (page.next ≤ 1048577)
+  pub viewport : IsViewport page.viewport

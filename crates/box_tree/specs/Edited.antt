@@ -1,0 +1,91 @@
+-- What an edit makes of a page, and why it may be refused.
+use Rattle.std.specs.Prelude.{ℕ, zero, suc, ◌+◌, List, [], ◌∷◌, length, Option, Some, None, Bool, not, ◌&&◌, ◌||◌, if◌then◌else◌, ◌==◌, nat_lt, nat_le, All, codes}
+use Rattle.std.specs.Option.{option_map_or}
+use Rattle.box_tree.specs.declared.edit.Edit.{Edit}
+use Rattle.box_tree.specs.declared.edit.Edit.TheVariants.{Add}
+use Rattle.box_tree.specs.declared.edit.Done.{Done}
+use Rattle.box_tree.specs.declared.edit.Done.TheVariants.{Node as NodeAdded}
+use Rattle.box_tree.specs.declared.edit.EditFault.{EditFault}
+use Rattle.box_tree.specs.declared.edit.EditFault.TheVariants as fault
+use Rattle.box_tree.specs.Forest.{Label, Forest, End, Grow, roots_of, node_count}
+use Rattle.box_tree.specs.Contents.{Contents, placed_of, has_id, depth_below, boxes_suit, IsBoxInRange}
+
+-- the numbers of an edit are within their limits
+abbrev pub IsInRange : Edit → Type 0
+IsInRange (Add parent at kind boxes) = All IsBoxInRange boxes
+
+-- the trees with one more at place `at`
+abbrev pub put_in : ℕ → Label → Forest → Forest → Forest
+put_in zero n below trees = Grow n below trees
+put_in (suc at) n below End = Grow n below End
+put_in (suc at) n below (Grow first firsts others) = Grow first firsts (put_in at n below others)
+
+-- the trees with one more, as child number `at` of the node `parent`
+abbrev pub put_below : ℕ → ℕ → Label → Forest → Forest → Forest
+put_below parent at n below End = End
+put_below parent at n below (Grow first firsts others) =
+    if first.id == parent then Grow first (put_in at n below firsts) others
+    else Grow first (put_below parent at n below firsts) (put_below parent at n below others)
+
+-- the tree with one more, as a child of `parent`, or as the tree itself where `parent` is 0
+abbrev pub planted : ℕ → ℕ → Label → Forest → Forest → Forest
+planted parent at n below tree = if parent == 0 then Grow n below End else put_below parent at n below tree
+
+-- the page that an edit without a fault leaves
+abbrev pub edited : Contents → Edit → Contents
+edited page (Add parent at kind boxes) = record page {
+  tree = planted parent at (record { id = page.next; kind = kind; boxes = boxes }) End page.tree;
+  next = page.next + 1;
+}
+
+-- what it answers then
+abbrev pub answer_of : Contents → Edit → Done
+answer_of page (Add parent at kind boxes) = NodeAdded page.next
+
+-- the ancestors that a child of `parent` has, from that node on up
+abbrev pub ancestors_below : Contents → ℕ → List Label
+ancestors_below page parent = option_map_or (λ p. p.label ∷ p.above) (placed_of page parent) []
+
+-- the number of children of `parent`, and 0 for parent 0
+abbrev pub child_count : Contents → ℕ → ℕ
+child_count page parent = option_map_or (λ p. length (roots_of p.below)) (placed_of page parent) 0
+
+-- the fault of the first test that holds
+abbrev pub first_of : List (Bool × EditFault) → Option EditFault
+first_of [] = None
+first_of ((holds, why) ∷ others) = if holds then Some why else first_of others
+
+-- the table of faults
+abbrev pub faults_of : Contents → Edit → List (Bool × EditFault)
+faults_of page (Add parent at kind boxes) =
+    (not (parent == 0 || has_id page parent), fault.Absent)
+    ∷ (parent == 0 && nat_lt 0 (node_count page.tree), fault.Root)
+    ∷ (not (boxes_suit (ancestors_below page parent) boxes), fault.Kind)
+    ∷ (nat_lt (child_count page parent) at, fault.Place)
+    ∷ (nat_lt 256 (depth_below (ancestors_below page parent)), fault.Deep)
+    ∷ (nat_le 65536 (node_count page.tree) || nat_lt 1048576 page.next, fault.Full)
+    ∷ []
+
+-- the first fault of an edit on a page, where it has one
+abbrev pub first_fault : Contents → Edit → Option EditFault
+first_fault page edit = first_of (faults_of page edit)
+
+-- the number of a fault in replies, and none for want of memory
+abbrev pub fault_number : EditFault → Option ℕ
+fault_number fault.Absent = Some 4
+fault_number fault.Root = Some 5
+fault_number fault.Kind = Some 6
+fault_number fault.Place = Some 8
+fault_number fault.Deep = Some 9
+fault_number fault.Full = Some 10
+fault_number fault.OutOfMemory = None
+
+-- the name of a fault in replies, as its bytes
+abbrev pub fault_name : EditFault → List ℕ
+fault_name fault.Absent = codes "absent"
+fault_name fault.Root = codes "root"
+fault_name fault.Kind = codes "kind"
+fault_name fault.Place = codes "place"
+fault_name fault.Deep = codes "deep"
+fault_name fault.Full = codes "full"
+fault_name fault.OutOfMemory = codes "memory"

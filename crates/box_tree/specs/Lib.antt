@@ -1,0 +1,7 @@
+pub mod Forest
+pub mod Contents
+pub mod Edited
+pub mod Kept
+pub mod PageState
+pub mod ForestCode
+pub mod Planned

@@ -1,0 +1,51 @@
+-- What a prepared edit holds, and an edit that was carried out.
+use Rattle.std.specs.Prelude.{◌≡◌, ℕ, ◌<◌, List, [], None}
+use Rattle.std.specs.Option.{option_map_or}
+use Rattle.std.specs.List.{insert}
+use Rattle.box_tree.specs.declared.kind.Kind.{Kind}
+use Rattle.box_tree.specs.declared.piece.Piece.{Piece}
+use Rattle.box_tree.specs.declared.node.Node.{Node}
+use Rattle.box_tree.specs.declared.edit.Edit.{Edit}
+use Rattle.box_tree.specs.declared.edit.Edit.TheVariants.{Add}
+use Rattle.box_tree.specs.declared.plan.Plan.{Plan}
+use Rattle.box_tree.specs.declared.plan.Plan.TheVariants.{AddNode}
+use Rattle.box_tree.specs.Forest.{End, node_count}
+use Rattle.box_tree.specs.Contents.{Contents, node_at, node_of}
+use Rattle.box_tree.specs.Edited.{IsInRange, first_fault, ancestors_below}
+use Rattle.box_tree.specs.PageState.{PageState}
+
+-- the node that an add makes
+abbrev pub node_added : Contents → ℕ → Kind → List Piece → Node
+node_added page parent kind boxes = node_at (record { label = record { id = page.next; kind = kind; boxes = boxes }; above = ancestors_below page parent; below = End })
+
+-- the children of `parent` with the new node as number `at` of them
+abbrev pub children_with : Contents → ℕ → ℕ → List ℕ
+children_with page parent at = option_map_or (λ n. insert n.children at page.next) (node_of page parent) []
+
+-- a node and the new children of its parent, as an add needs them
+pub record IsAddPlan (page : PageState) (parent at : ℕ) (kind : Kind) (boxes : List Piece) (node : Node) (siblings : List ℕ) : Type 0 where
+  pub node_is : node ≡ node_added page.contents parent kind boxes
+  pub siblings_are : siblings ≡ children_with page.contents parent at
+  pub room : node_count page.contents.tree < page.room
+
+-- the plan is one for the edit on the page
+abbrev pub IsPlanFor : Plan → Edit → PageState → Type 0
+IsPlanFor (AddNode node siblings) (Add parent at kind boxes) page = IsAddPlan page parent at kind boxes node siblings
+
+-- an edit that may be carried out, and its plan
+pub record IsPlanned (plan : Plan) (edit : Edit) (page : PageState) : Type 0 where
+  pub in_range : IsInRange edit
+  pub faultless : first_fault page.contents edit ≡ None
+  pub plan_is : IsPlanFor plan edit page
+
+-- a prepared edit as contracts see it: the edit, and the page that it was prepared from
+pub record PreparedState : Type 0 where
+  pub edit : Edit
+  pub page : PageState
+
+-- an edit that was carried out as contracts see it: the contents before and after it, and the room that it left
+pub record UndoState : Type 0 where
+  pub edit : Edit
+  pub before : Contents
+  pub after : Contents
+  pub room : ℕ

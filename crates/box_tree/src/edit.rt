@@ -1,0 +1,98 @@
+ghost use Rattle.std.specs.Prelude.{◌≡◌, ◌↔◌, IsTrue};
+ghost use Rattle.box_tree.specs.declared.edit.EditFault.TheVariants.{OutOfMemory};
+ghost use Rattle.box_tree.specs.Edited.{IsInRange, fault_number, fault_name};
+
+use crate::kind::Kind;
+use crate::piece::PieceList;
+use std::alloc::AllocError;
+use thiserror::Error;
+
+/// A change of the page.
+#[derive(Debug, Drop)]
+pub enum Edit {
+    /// A new node with the next id, as child number `at` of `parent`, or as the root where `parent` is 0.
+    Add {
+        parent: u32,
+        at: u32,
+        kind: Kind,
+        boxes: PieceList,
+    },
+}
+
+impl Edit {
+    /// Whether its numbers are within their limits, as `Page::check` requires.
+    pub fn in_range(&self) -> bool
+        ensures { IsTrue result ↔ IsInRange self.now }
+    {
+        match self {
+            Edit::Add { boxes, .. } => boxes.0.iter().all(|piece| piece.in_range()),
+        }
+    }
+}
+
+/// What an accepted edit answers.
+#[derive(Clone, Copy, Debug, PartialEq, Eq)]
+pub enum Done {
+    /// The id of the node that was added.
+    Node { id: u32 },
+    Done,
+}
+
+/// Why an edit was refused, in the order of the tests.
+#[derive(Clone, Copy, Debug, PartialEq, Eq, Error)]
+pub enum EditFault {
+    #[error("an id that it names is not in the page")]
+    Absent,
+    #[error("the page would have a second root")]
+    Root,
+    #[error("the kind does not suit its parent, or the boxes do not suit the kind")]
+    Kind,
+    #[error("the place is above the number of children")]
+    Place,
+    #[error("a node would be deeper than 256")]
+    Deep,
+    #[error("the page is full")]
+    Full,
+    #[error("out of memory")]
+    OutOfMemory,
+}
+
+impl EditFault {
+    /// Its number in replies; none exactly for want of memory.
+    pub fn number(&self) -> Option<u8>
+        ensures { result ≡ fault_number self.now }
+    {
+        match self {
+            EditFault::Absent => Some(4),
+            EditFault::Root => Some(5),
+            EditFault::Kind => Some(6),
+            EditFault::Place => Some(8),
+            EditFault::Deep => Some(9),
+            EditFault::Full => Some(10),
+            EditFault::OutOfMemory => None,
+        }
+    }
+
+    /// Its name in replies.
+    pub fn name(&self) -> &'static str
+        ensures { result.now ≡ fault_name self.now }
+    {
+        match self {
+            EditFault::Absent => "absent",
+            EditFault::Root => "root",
+            EditFault::Kind => "kind",
+            EditFault::Place => "place",
+            EditFault::Deep => "deep",
+            EditFault::Full => "full",
+            EditFault::OutOfMemory => "memory",
+        }
+    }
+}
+
+impl From<AllocError> for EditFault {
+    ghost from_gives = { λ _ fault. fault ≡ OutOfMemory };
+
+    fn from(_error: AllocError) -> EditFault {
+        EditFault::OutOfMemory
+    }
+}

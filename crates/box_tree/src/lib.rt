@@ -1,0 +1,22 @@
+//! The page: a tree of nodes with their boxes, the viewport, and the edits that change them.
+//!
+//! It promises that an edit is tested by the table of faults before anything is changed, that a tested edit is
+//! carried out without taking memory, and that the page is then the edited one of `specs/Edited.antt`.
+//! It stands on `fractions` for its points and its counter of steps.
+#![tactic(auto)]
+
+mod edit;
+mod kind;
+mod node;
+mod page;
+mod piece;
+mod plan;
+mod viewport;
+
+pub use edit::{Done, Edit, EditFault};
+pub use kind::Kind;
+pub use node::{Boxes, IdList, Node};
+pub use page::Page;
+pub use piece::{Piece, PieceList};
+pub use plan::{Prepared, Undo};
+pub use viewport::Viewport;

@@ -1,0 +1,71 @@
+ghost use Rattle.std.specs.Prelude.{◌≡◌, ◌≤◌, length, IfOk};
+ghost use Rattle.std.specs.List.{insert};
+
+use crate::kind::Kind;
+use crate::piece::Piece;
+use smallvec::SmallVec;
+use std::alloc::{AllocError, Global};
+use std::marker::Model;
+
+/// The ids of the children of a node in tree order, which clauses see as a list.
+#[derive(Debug, Drop)]
+pub struct IdList(pub Vec<u32>);
+
+impl Model for IdList {
+    ghost use Rattle.std.specs.Prelude.{List, ℕ};
+
+    ghost Value = { List ℕ };
+
+    ghost view = { λ list. list.0.items };
+}
+
+impl IdList {
+    // The list with one more id at a place.
+    pub(crate) fn with(&self, alloc: Global, at: usize, id: u32) -> Result<IdList, AllocError>
+        requires { at ≤ length self.now }
+        ensures { IfOk result (λ list. list ≡ insert self.now at id) }
+    {
+        let mut ids = Vec::with_capacity(alloc, self.0.len() + 1)?;
+        let (before, after) = self.0.split_at(at);
+        ids.extend_from_slice(before)?;
+        ids.push(id)?;
+        ids.extend_from_slice(after)?;
+        Ok(IdList(ids))
+    }
+}
+
+/// The boxes of a node, which clauses see as a list.
+#[derive(Drop)]
+pub struct Boxes(pub SmallVec<Piece, 1>);
+
+impl Model for Boxes {
+    ghost use Rattle.std.specs.Prelude.{List};
+    ghost use Rattle.box_tree.specs.declared.piece.Piece.{Piece};
+
+    ghost Value = { List Piece };
+
+    ghost view = { λ list. list.0.items };
+}
+
+impl Boxes {
+    // A copy of the boxes.
+    pub(crate) fn from_pieces(alloc: Global, pieces: &[Piece]) -> Result<Boxes, AllocError>
+        ensures { IfOk result (λ boxes. boxes ≡ pieces.now) }
+    {
+        Ok(Boxes(SmallVec::from_slice(alloc, pieces)?))
+    }
+}
+
+/// A node of the page as its reader sees it.
+#[derive(Drop)]
+pub struct Node {
+    /// From 1 on; no id is given twice.
+    pub id: u32,
+    pub kind: Kind,
+    /// The id of the parent, 0 for the root.
+    pub parent: u32,
+    pub children: IdList,
+    /// The number of nodes from the root to this one, 1 for the root and at most 256.
+    pub depth: u32,
+    pub boxes: Boxes,
+}

@@ -1,0 +1,198 @@
+ghost use Rattle.std.specs.Prelude.{◌≡◌, ◌≢◌, ◌+◌, ◌≤◌, ◌<◌, ◌↔◌, ◌^◌, pos, ◌≤ℤ◌, length, slice_get, Some, None, IsTrue, IsNone, IfSome, IfNone, IfOk, IfErr, OnOk, OnErr};
+ghost use Rattle.std.specs.Option.{option_to_list, option_copied};
+ghost use Rattle.box_tree.specs.Contents.{empty_page, has_id, node_of, IsValid};
+ghost use Rattle.box_tree.specs.Edited.{IsInRange, first_fault, edited, answer_of};
+ghost use Rattle.box_tree.specs.Forest.{roots_of, node_count};
+ghost use Rattle.box_tree.specs.Kept.{node_with, IsRisingFrom};
+
+use crate::edit::{Done, Edit, EditFault};
+use crate::node::Node;
+use crate::plan::{Plan, Prepared, Undo};
+use crate::viewport::Viewport;
+use fractions::{Ledger, Spot, Steps};
+use std::alloc::Global;
+use std::marker::Model;
+use std::snapshot::Snapshot;
+
+mod adds;
+
+/// A page: a tree of nodes or none, seen through a viewport.
+#[derive(Drop)]
+pub struct Page {
+    // in the order of their ids
+    nodes: Vec<Node>,
+    root: Option<u32>,
+    viewport: Viewport,
+    next: u32,
+}
+
+impl Model for Page {
+    ghost use Rattle.std.specs.Prelude.{vec_capacity};
+    ghost use Rattle.std.specs.Coded.{Coded, codes};
+    ghost use Rattle.box_tree.specs.Forest.{Label};
+    ghost use Rattle.box_tree.specs.ForestCode.{forest_code};
+    ghost use Rattle.box_tree.specs.PageState.{PageState};
+
+    ghost Value = { PageState };
+
+    ghost coded = { let label : Coded Label = Prim.hlevel codes in Prim.hlevel (codes, forest_code label) };
+
+    ghost use Rattle.box_tree.specs.Kept.{page_of, IsKept};
+
+    ghost view = { λ p. record { contents = page_of p.nodes.items p.root p.viewport p.next; room = vec_capacity p.nodes } };
+
+    ghost invariant = { λ p. IsKept p.nodes.items p.root (page_of p.nodes.items p.root p.viewport p.next) };
+}
+
+impl Page {
+    /// A page with no node, seen through an unscrolled viewport of these sides, 1 to 2^20 units each.
+    pub fn new(alloc: Global, w: i64, h: i64) -> Page
+        requires width { (pos 1 ≤ℤ w) × (w ≤ℤ pos (2 ^ 20)) }
+        requires height { (pos 1 ≤ℤ h) × (h ≤ℤ pos (2 ^ 20)) }
+        ensures { result.contents ≡ empty_page w h }
+    {
+        let origin = Spot { x: 0, y: 0 };
+        Page {
+            nodes: Vec::new(alloc),
+            root: None,
+            viewport: Viewport {
+                w,
+                h,
+                scroll: origin,
+                max: origin,
+            },
+            next: 1,
+        }
+    }
+
+    /// Whether the id is in the page.
+    pub fn has(&self, id: u32) -> bool
+        ensures { result ≡ has_id self.now.contents id }
+    {
+        self.find(id).is_some()
+    }
+
+    /// The id of the root; none exactly where no node is there.
+    pub fn root(&self) -> Option<u32>
+        ensures root { option_to_list result ≡ roots_of self.now.contents.tree }
+        ensures none { IsNone result ↔ (node_count self.now.contents.tree ≡ 0) }
+    {
+        self.root
+    }
+
+    /// The viewport, in units.
+    pub fn viewport(&self) -> Viewport
+        ensures { result ≡ self.now.contents.viewport }
+    {
+        self.viewport
+    }
+
+    /// How many nodes there are, at most 65,536.
+    pub fn count(&self) -> u32
+        ensures { result ≡ node_count self.now.contents.tree }
+    {
+        self.nodes.len() as u32
+    }
+
+    /// The node of an id, in one step.
+    pub fn node<L: Ledger>(&self, id: u32, steps: &mut Steps<L>) -> &Node
+        requires { IsTrue (has_id self.now.contents id) }
+        ensures node { node_of self.now.contents id ≡ Some result.now }
+        ensures step { steps.new ≡ steps.old + 1 }
+    {
+        steps.tick();
+        self.find(id).unwrap()
+    }
+
+    // The node of an id, where it is in the page.
+    fn find(&self, id: u32) -> Option<&Node>
+        ensures { option_copied result ≡ node_of self.now.contents id }
+    {
+        let place = place_of(&self.nodes, id)?;
+        Some(&self.nodes[place])
+    }
+
+    /// Tests an edit, and takes all memory that carrying it out needs. The contents stay; the room never shrinks.
+    pub fn check(&mut self, edit: &Edit) -> Result<Prepared, EditFault>
+        requires { IsInRange edit.now }
+        ensures contents { self.new.contents ≡ self.old.contents }
+        ensures room { self.old.room ≤ self.new.room }
+        ensures faultless { OnOk result (first_fault self.old.contents edit.now ≡ None) }
+        ensures prepared { IfOk result (λ p. (p.edit ≡ edit.now) × (p.page ≡ self.new)) }
+
+        // Want of memory may come in place of any other answer.
+        ensures first_fault { IfErr result (λ why. why ≢ EditFault.OutOfMemory → first_fault self.old.contents edit.now ≡ Some why) }
+    {
+        let plan = match edit {
+            Edit::Add {
+                parent,
+                at,
+                kind,
+                boxes,
+            } => self.plan_add(*parent, *at, *kind, boxes)?,
+        };
+        Ok(Prepared {
+            plan,
+            edit: Snapshot::of(edit),
+            page: Snapshot::of(self),
+        })
+    }
+
+    /// Carries out an edit that was prepared from this page as it stands.
+    pub fn commit(&mut self, prepared: Prepared) -> Undo
+        requires { prepared.page ≡ self.old }
+        ensures contents { self.new.contents ≡ edited self.old.contents prepared.edit }
+        ensures edit { result.edit ≡ prepared.edit }
+        ensures before { result.before ≡ self.old.contents }
+        ensures after { result.after ≡ self.new.contents }
+        ensures room { result.room ≡ self.new.room }
+    {
+        let before = Snapshot::of(self);
+        let Prepared {
+            plan,
+            edit,
+            page: _,
+        } = prepared;
+        let done = match plan {
+            Plan::AddNode { node, siblings } => self.add(node, siblings, &edit),
+        };
+        Undo {
+            done,
+            edit,
+            before,
+            after: Snapshot::of(self),
+        }
+    }
+
+    /// Gives up what the edit took out, and answers it.
+    pub fn settle(&mut self, undo: Undo) -> Done
+        requires contents { undo.after ≡ self.old.contents }
+        requires room { undo.room ≡ self.old.room }
+        ensures page { self.new ≡ self.old }
+        ensures answer { result ≡ answer_of undo.before undo.edit }
+    {
+        let Undo {
+            done,
+            edit: _,
+            before: _,
+            after: _,
+        } = undo;
+        done
+    }
+
+    /// What holds of the contents of every page.
+    pub fn validity(&self)
+        ensures { IsValid self.now.contents }
+    {
+        let _ = &self.nodes;
+    }
+}
+
+// The place of the node with this id.
+fn place_of(nodes: &[Node], id: u32) -> Option<usize>
+    requires { IsRisingFrom 0 nodes.now }
+    ensures found { IfSome result (λ place. (place < length nodes.now) × (slice_get nodes.now place ≡ node_with nodes.now id)) }
+    ensures absent { IfNone result (node_with nodes.now id ≡ None) }
+{
+    nodes.binary_search_by_key(&id, |node| node.id).ok()
+}

@@ -1,0 +1,61 @@
+use crate::edit::{Done, Edit};
+use crate::node::{IdList, Node};
+use crate::page::Page;
+use std::marker::Model;
+use std::snapshot::Snapshot;
+
+/// What carrying out an edit needs, with all its memory.
+#[derive(Drop)]
+pub(crate) enum Plan {
+    /// The new node, and the children that its parent then has.
+    AddNode { node: Node, siblings: IdList },
+}
+
+/// An edit that was tested, with all the memory that carrying it out takes.
+#[derive(Drop)]
+pub struct Prepared {
+    pub(crate) plan: Plan,
+    pub(crate) edit: Snapshot<Edit>,
+    pub(crate) page: Snapshot<Page>,
+}
+
+impl Model for Prepared {
+    ghost use Rattle.std.specs.Coded.{Coded, codes};
+    ghost use Rattle.box_tree.specs.Forest.{Label};
+    ghost use Rattle.box_tree.specs.ForestCode.{forest_code};
+    ghost use Rattle.box_tree.specs.Planned.{PreparedState, IsPlanned};
+
+    ghost Value = { PreparedState };
+
+    ghost coded = { let label : Coded Label = Prim.hlevel codes in Prim.hlevel (codes, forest_code label) };
+
+    ghost view = { λ p. record { edit = p.edit.value; page = p.page.value } };
+
+    ghost invariant = { λ p. IsPlanned p.plan p.edit.value p.page.value };
+}
+
+/// An edit that was carried out and not yet settled.
+#[derive(Drop)]
+pub struct Undo {
+    pub(crate) done: Done,
+    pub(crate) edit: Snapshot<Edit>,
+    pub(crate) before: Snapshot<Page>,
+    pub(crate) after: Snapshot<Page>,
+}
+
+impl Model for Undo {
+    ghost use Rattle.std.specs.Prelude.{◌≡◌};
+    ghost use Rattle.std.specs.Coded.{Coded, codes};
+    ghost use Rattle.box_tree.specs.Edited.{answer_of};
+    ghost use Rattle.box_tree.specs.Forest.{Label};
+    ghost use Rattle.box_tree.specs.ForestCode.{forest_code};
+    ghost use Rattle.box_tree.specs.Planned.{UndoState};
+
+    ghost Value = { UndoState };
+
+    ghost coded = { let label : Coded Label = Prim.hlevel codes in Prim.hlevel (codes, forest_code label) };
+
+    ghost view = { λ u. record { edit = u.edit.value; before = u.before.value.contents; after = u.after.value.contents; room = u.after.value.room } };
+
+    ghost invariant = { λ u. u.done ≡ answer_of u.before.value.contents u.edit.value };
+}
