@@ -61,6 +61,14 @@ pub no_newline : has_newline [] ≡ false
 unfolding has_newline
 no_newline = refl
 
+pub nothing_whole : whole_lines [] ≡ []
+unfolding whole_lines
+nothing_whole = refl
+
+pub nothing_unfinished : unfinished [] ≡ []
+unfolding unfinished
+nothing_unfinished = refl
+
 pub no_lines : lines [] ≡ []
 unfolding lines
 no_lines = refl
