@@ -1,11 +1,11 @@
 -- How far a run has come after some bytes of its script, where the ends and the desk tell.
-use Rattle.std.proofs.Common.{◌≡◌, ◌<◌, ◌≤◌, ◌+◌, ◌-◌, ℕ, min, List, [], ◌∷◌, ◌++◌, length, take, drop, Option, Some, None, option_map, refl, ap, sym, ◌∙◌, append_assoc, arith}
+use Rattle.std.proofs.Common.{◌≡◌, ◌<◌, ◌≤◌, ◌+◌, ◌-◌, ℕ, min, List, [], ◌∷◌, ◌++◌, length, take, drop, Option, Some, None, option_map, inl, inr, refl, ap, sym, ◌∙◌, append_assoc, arith}
 use Rattle.std.proofs.lemmas.Option.{none-some, same_Some}
 use Rattle.std.proofs.lemmas.List.{append-nil, take-append-drop, take_at, drop_at, drop-drop, length-append, length-drop, length-take, take_all, take_min, take-append-le, append_cancel_left}
 use Rattle.std.proofs.Math.Nat.{min-le_right}
 use Rattle.std.proofs.Math.Seq.{take-add, take-append-add}
 use Rattle.box_tree.specs.Contents.{Contents}
-use Rattle.hit_script.specs.Ends.{Read, TakesAll, TakesFront}
+use Rattle.hit_script.specs.Ends.{Read, Rose, TakesAll, TakesFront}
 use Rattle.hit_script.specs.Lines.{lines, has_newline, whole_lines, unfinished}
 use Rattle.hit_script.specs.Script.{replies_from, page_behind}
 use Rattle.hit_script.proofs.LineLaws.{whole_lines_more, unfinished_more, no_lines, nothing_unfinished, nothing_whole}
@@ -93,3 +93,8 @@ stands_more {left0} {left} {taken0} {taken} {page0} {page} {read} {begun} left' 
       rw (read_front bytes more.0 script read more.2, lines_more (take read script) bytes, replies_from-append, ← stands.begun_is script told)
           (takes_both taken0 taken taken' _ _ (stands.taken_is script first told told_page) took);
 }
+
+-- A count that rose after it did not fall rose.
+pub rose_since : (a b c : ℕ) → a ≤ b → Rose b c → Rose a c
+rose_since a b c kept (inl more) = inl (omega arith)
+rose_since a b c kept (inr last) = inr last

@@ -4,3 +4,4 @@ pub mod Outcome
 pub mod Command
 pub mod Reply
 pub mod Script
+pub mod Ending

@@ -8,6 +8,7 @@ mod desks;
 mod outcome;
 mod reading;
 mod reply;
+mod script;
 mod sinks;
 mod sources;
 mod transfer;
