@@ -1,14 +1,15 @@
 -- How a run ends, by how far it had come.
-use Rattle.std.proofs.Common.{◌≡◌, ◌≢◌, ◌<◌, ◌≤◌, ◌+◌, ◌^◌, ℕ, List, [], ◌++◌, length, take, drop, Option, Some, None, refl, ap, sym, ◌∙◌, append_assoc, arith}
-use Rattle.std.specs.Prelude.{IfSome}
+use Rattle.std.proofs.Common.{◌≡◌, ◌≢◌, ◌<◌, ◌≤◌, ◌+◌, ◌^◌, ℕ, List, [], ◌++◌, length, take, drop, Option, Some, None, inl, inr, refl, ap, sym, ◌∙◌, append_assoc, arith}
+use Rattle.std.specs.Prelude.{IfSome, IsSome, ◌⊎◌, ◌-◌}
 use Rattle.std.proofs.lemmas.Option.{none-some, same_Some}
-use Rattle.std.proofs.lemmas.List.{append-nil, take-append-drop, append_cancel_right}
+use Rattle.std.proofs.lemmas.Bool.{false≢true}
+use Rattle.std.proofs.lemmas.List.{append-nil, take-append-drop, append_cancel_right, length-drop}
 use Rattle.box_tree.specs.Contents.{Contents}
 use Rattle.hit_script.specs.Ending.{Ends}
 use Rattle.hit_script.specs.Ends.{Read, Rose, TakesAll, TakesFront}
 use Rattle.hit_script.specs.Lines.{lines, whole_lines, unfinished}
 use Rattle.hit_script.specs.Outcome.{fault_status}
-use Rattle.hit_script.specs.Script.{replies_from, page_behind}
+use Rattle.hit_script.specs.Script.{first_page, replies_from, page_behind}
 use Rattle.hit_script.specs.declared.outcome.Status.{Status}
 use Rattle.hit_script.specs.declared.outcome.Status.TheVariants as status
 use Rattle.hit_script.specs.declared.sinks.SinkFault.{SinkFault}
@@ -190,3 +191,39 @@ ends_done {left0} {left} {taken0} {taken} {page0} {page} {read} {begun} left' ta
       let end = at_end left' stands reads ended script told in
       (read, below, stands.within script told, end.0 ∙ ap Some (sym end.1));
 }
+
+-- What a run without words owes, by how it ended.
+
+too_much_or_not : (how : Status) → (how ≡ status.TooMuch) ⊎ (how ≢ status.TooMuch)
+too_much_or_not status.Done = inr (λ e. cc)
+too_much_or_not status.Usage = inr (λ e. cc)
+too_much_or_not status.ReadFault = inr (λ e. cc)
+too_much_or_not status.WriteFault = inr (λ e. cc)
+too_much_or_not status.Memory = inr (λ e. cc)
+too_much_or_not status.TooMuch = inl refl
+
+-- a page that is told is the first one
+pub first_told : (page : Option Contents) → IfSome page (λ p. p ≡ first_page) → IsSome page → page ≡ Some first_page
+first_told None is told = absurd (false≢true told)
+first_told (Some p) is told = ap Some is
+
+-- where no count rose and the input is short, only memory can be wanting
+pub ends_complete : {left0 left taken0 taken : Option (List ℕ)} {page0 : Option Contents} {rf0 rf wf0 wf : ℕ} (how : Status) → Ends how left0 left taken0 taken page0 rf0 rf wf0 wf
+    → (Rose rf0 rf → ⊥) → (Rose wf0 wf → ⊥) → (script : List ℕ) → left0 ≡ Some script → length script < 2 ^ 32 → (how ≡ status.Done) ⊎ (how ≡ status.Memory)
+ends_complete status.Done ends calm_source calm_sink script told short = inl refl
+ends_complete status.Usage ends calm_source calm_sink script told short = absurd (ends.usage refl)
+ends_complete status.ReadFault ends calm_source calm_sink script told short = absurd (calm_source (ends.read_fault refl))
+ends_complete status.WriteFault ends calm_source calm_sink script told short = absurd (calm_sink (ends.write_fault refl))
+ends_complete status.Memory ends calm_source calm_sink script told short = inr refl
+ends_complete status.TooMuch ends calm_source calm_sink script told short = let long = (ends.too_much refl script told).0 in absurd (omega arith)
+
+-- as many bytes as a run may read, and it has read too much
+pub ends_full : {left0 left taken0 taken : Option (List ℕ)} {page0 : Option Contents} {rf0 rf wf0 wf : ℕ} (how : Status) → Ends how left0 left taken0 taken page0 rf0 rf wf0 wf
+    → (script : List ℕ) → left0 ≡ Some script → 2 ^ 32 ≤ length script → left ≡ Some (drop (2 ^ 32) script) → how ≡ status.TooMuch
+ends_full {left0} {left} how ends script told long full = elim (too_much_or_not how) [
+    inl is ↦ is
+    | inr isnt ↦
+        let short = ends.not_too_much isnt script told in
+        let same : drop short.0 script ≡ drop (2 ^ 32) script = same_Some _ _ (sym short.3 ∙ full) in
+        let sizes : length script - short.0 ≡ length script - 2 ^ 32 = sym (length-drop short.0 script) ∙ ap length same ∙ length-drop (2 ^ 32) script in
+        absurd (omega (arith, sizes, short.1, short.2, long)) ]

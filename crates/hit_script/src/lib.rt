@@ -18,5 +18,6 @@ pub use command::{Command, LineFault, command_of, is_blank};
 pub use desks::Desk;
 pub use outcome::Status;
 pub use reply::{OutOfMemory, Reply, print};
+pub use script::run;
 pub use sinks::{Sink, SinkFault, StdSink, Taken};
 pub use sources::{Bytes, Calm, Failed, Source, StdSource};
