@@ -5,3 +5,4 @@ pub mod KeptLemmas
 pub mod KeptPages
 pub mod AddLemmas
 pub mod PlanLemmas
+pub mod PlacedLemmas

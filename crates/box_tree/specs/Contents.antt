@@ -45,6 +45,11 @@ node_of page id = option_map node_at (placed_of page id)
 abbrev pub has_id : Contents → ℕ → Bool
 has_id page id = is_some (placed_of page id)
 
+-- the containing blocks of a node with these ancestors, nearest first, each the nearest block container above the one
+-- before it (CSS 2.2, 10.1): every node is a block, and so a block container
+abbrev pub containing_block_chain : List Label → List Label
+containing_block_chain above = above
+
 -- whether a node has a box
 abbrev pub has_box : Label → Bool
 has_box n = not (length n.boxes == 0)

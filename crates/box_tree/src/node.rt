@@ -20,6 +20,13 @@ impl Model for IdList {
 }
 
 impl IdList {
+    /// The ids in order.
+    pub fn as_slice(&self) -> &[u32]
+        ensures { result.now ≡ self.now }
+    {
+        self.0.as_slice()
+    }
+
     // The list with one more id at a place.
     pub(crate) fn with(&self, alloc: Global, at: usize, id: u32) -> Result<IdList, AllocError>
         requires { at ≤ length self.now }
@@ -48,6 +55,13 @@ impl Model for Boxes {
 }
 
 impl Boxes {
+    /// The boxes in order.
+    pub fn as_slice(&self) -> &[Piece]
+        ensures { result.now ≡ self.now }
+    {
+        self.0.as_slice()
+    }
+
     // A copy of the boxes.
     pub(crate) fn from_pieces(alloc: Global, pieces: &[Piece]) -> Result<Boxes, AllocError>
         ensures { IfOk result (λ boxes. boxes ≡ pieces.now) }

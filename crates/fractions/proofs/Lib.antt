@@ -1,1 +1,5 @@
+pub mod DivisionLemmas
+pub mod FractionLemmas
+pub mod Integers
 pub mod RectLemmas
+pub mod Widths

@@ -1,1 +1,3 @@
+pub mod Division
+pub mod Fraction
 pub mod Rect

@@ -1,8 +1,16 @@
-// What everything above counts with: rectangles and spots in whole units, and the counter of steps.
+// What everything above counts with: exact fractions, quotients rounded down and up, rectangles and spots in whole
+// units, and the counter of steps.
 //
-// It promises that each answer is exact: a rectangle holds its left and top edges and not its right and bottom ones,
-// the part that two rectangles share holds the points that both hold, and a tick adds one to the count of steps.
+// It promises that each answer is exact. A fraction is in lowest terms over a positive denominator; sum, product and
+// order are those of the numbers; a floor and a ceiling are told by their two inequalities, for divisors of either
+// sign. A rectangle holds its left and top edges and not its right and bottom ones, and the part that two rectangles
+// share holds the points that both hold. A tick adds one to the count of steps. How large the numbers may be is
+// required of the caller, and within that no intermediate leaves 128 bits.
 // It stands on std alone.
+//
+// For the crates above, proofs/Widths.antt has the lemma on the width of a product (|a| at most m and |b| at most n
+// give |a b| at most m n) with those of a sum and a difference, and proofs/Integers.antt the laws of products of whole
+// numbers that std lacks.
 //
 // How a function counts its steps. It takes the counter last, and says by a clause of its own what it may add to it:
 //
@@ -40,8 +48,12 @@
 // The three stand in src/steps/tests.rt as code that is proved.
 #![tactic(auto)]
 
+mod division;
+mod frac;
 mod rect;
 mod steps;
 
+pub use division::{ceil_div, floor_div, gcd};
+pub use frac::Frac;
 pub use rect::{Rect, Spot};
 pub use steps::{Blank, Brand, Ledger, Steps};

@@ -1,0 +1,4 @@
+pub mod Products
+pub mod RadiiLemmas
+pub mod OverlapLemmas
+pub mod CurveLemmas

@@ -1,0 +1,4 @@
+pub mod Radii
+pub mod Overlap
+pub mod Factor
+pub mod Curve

@@ -1,0 +1,5 @@
+pub mod Chain
+pub mod Events
+pub mod Turns
+pub mod State
+pub mod Lending

@@ -1,0 +1,17 @@
+// The mouse events of a pointer that goes from one element to another, each given as a chain: an element
+// with its ancestors, root first.
+//
+// A pointer keeps the chain that it was last turned to. A turn to a new chain answers just the events of
+// UI Events, in their order, and keeps the new chain; it takes no memory. The crate stands on std alone.
+#![tactic(auto)]
+
+mod changes;
+mod event;
+pub mod laws;
+mod pointer;
+
+pub use event::{Event, EventKind};
+pub use pointer::{OutOfMemory, Pointer};
+
+#[cfg(test)]
+mod tests;

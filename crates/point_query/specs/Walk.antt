@@ -1,0 +1,42 @@
+-- What a walk over the trees admits at a point, as it goes down with the point in the space of the trees.
+use Rattle.std.specs.Prelude.{ℕ, ◌+◌, ◌*◌, ◌≤◌, ◌^◌, List, [], ◌∷◌, ◌++◌, length, if◌then◌else◌, pos, ◌-ℤ◌, ◌*ℤ◌, unsigned_abs}
+use Rattle.std.specs.Option.{option_map_or}
+use Rattle.box_tree.specs.declared.piece.Piece.{Piece}
+use Rattle.box_tree.specs.Forest.{Label, Forest, End, Grow}
+use Rattle.box_tree.specs.Contents.{Contents, placed_of}
+use Rattle.point_query.specs.declared.elements.Local.{Local}
+use Rattle.point_query.specs.Elements.{FinePoint, padding_corner, box_holds}
+
+-- a point of a space in fine units
+abbrev pub fine_point : Local → FinePoint
+fine_point at = record { x = pos 64 *ℤ at.x; y = pos 64 *ℤ at.y }
+
+-- a point of a space in the space that a node gives its children
+abbrev pub from_corner : Local → List Piece → Local
+from_corner at boxes = record { x = at.x -ℤ (padding_corner boxes).x; y = at.y -ℤ (padding_corner boxes).y }
+
+-- the node itself, where its box holds the point
+abbrev pub own_at : Local → Label → List ℕ
+own_at at n = if box_holds n.boxes (fine_point at) then n.id ∷ [] else []
+
+-- what is admitted of trees, from bottom to top
+abbrev pub admitted_in : Local → Forest → List ℕ
+admitted_in at End = []
+admitted_in at (Grow n below others) = own_at at n ++ (admitted_in (from_corner at n.boxes) below ++ admitted_in at others)
+
+-- the trees below a node
+abbrev pub below_of : Contents → ℕ → Forest
+below_of page id = option_map_or (λ p. p.below) (placed_of page id) End
+
+-- the tree of a node
+abbrev pub tree_of : Contents → ℕ → Forest
+tree_of page id = option_map_or (λ p. Grow p.label p.below End) (placed_of page id) End
+
+-- how many ancestors a node has
+abbrev pub ancestor_count : Contents → ℕ → ℕ
+ancestor_count page id = option_map_or (λ p. length p.above) (placed_of page id) 0
+
+-- a point as far from the corner as that many boxes may bring it
+pub record IsNear (ancestors : ℕ) (at : Local) : Type 0 where
+  pub across : unsigned_abs at.x ≤ 2 ^ 64 * (1 + ancestors)
+  pub down : unsigned_abs at.y ≤ 2 ^ 64 * (1 + ancestors)

@@ -1,0 +1,81 @@
+ghost use Rattle.std.specs.Prelude.{◌≡◌, ◌≢◌, ◌≤ℤ◌, ◌^◌, pos, IfOk, IfErr, OnOk, OnErr};
+ghost use Rattle.box_tree.specs.declared.edit.EditFault.TheVariants.{OutOfMemory as MemoryFault};
+ghost use Rattle.box_tree.specs.Contents.{empty_page};
+ghost use Rattle.box_tree.specs.Edited.{IsInRange, first_fault, edited, answer_of};
+
+use box_tree::{Done, Edit, EditFault, Page};
+use fractions::{Ledger, Steps};
+use std::alloc::{AllocError, AllocFailed, Global};
+use std::marker::Model;
+use thiserror::Error;
+
+/// No memory was left.
+#[derive(Clone, Copy, Debug, PartialEq, Eq, Error)]
+#[error("out of memory")]
+pub struct OutOfMemory;
+
+impl From<AllocError> for OutOfMemory {
+    fn from(_error: AllocError) -> OutOfMemory {
+        OutOfMemory
+    }
+}
+
+impl<T: Drop> From<AllocFailed<T>> for OutOfMemory {
+    fn from(_error: AllocFailed<T>) -> OutOfMemory {
+        OutOfMemory
+    }
+}
+
+/// A page that is edited and queried, which clauses see as its contents.
+#[derive(Drop)]
+pub struct Engine {
+    page: Page,
+}
+
+impl Model for Engine {
+    ghost use Rattle.std.specs.Coded.{Coded, codes};
+    ghost use Rattle.box_tree.specs.Contents.{Contents};
+    ghost use Rattle.box_tree.specs.Forest.{Label};
+    ghost use Rattle.box_tree.specs.ForestCode.{forest_code};
+
+    ghost Value = { Contents };
+
+    ghost coded = { let label : Coded Label = Prim.hlevel codes in Prim.hlevel (codes, forest_code label) };
+
+    ghost view = { λ e. e.page.contents };
+}
+
+impl Engine {
+    /// An engine of an empty page, seen through an unscrolled viewport of these sides, 1 to 2^20 units each.
+    pub fn new(alloc: Global, w: i64, h: i64) -> Result<Engine, OutOfMemory>
+        requires width { (pos 1 ≤ℤ w) × (w ≤ℤ pos (2 ^ 20)) }
+        requires height { (pos 1 ≤ℤ h) × (h ≤ℤ pos (2 ^ 20)) }
+        ensures { IfOk result (λ engine. engine ≡ empty_page w h) }
+    {
+        Ok(Engine {
+            page: Page::new(alloc, w, h),
+        })
+    }
+
+    /// Applies an edit, or refuses it by its first fault and changes nothing. Want of memory may come in place of any
+    /// other answer.
+    pub fn edit<L: Ledger>(&mut self, edit: &Edit, _steps: &mut Steps<L>) -> Result<Done, EditFault>
+        requires { IsInRange edit.now }
+        ensures faultless { OnOk result (first_fault self.old edit.now ≡ None) }
+        ensures edited { OnOk result (self.new ≡ edited self.old edit.now) }
+        ensures answer { IfOk result (λ done. done ≡ answer_of self.old edit.now) }
+        ensures first_fault { IfErr result (λ why. why ≢ MemoryFault → first_fault self.old edit.now ≡ Some why) }
+        ensures unchanged { OnErr result (self.new ≡ self.old) }
+    {
+        let prepared = self.page.check(edit)?;
+        let undo = self.page.commit(prepared);
+        Ok(self.page.settle(undo))
+    }
+
+    /// The page as it stands.
+    pub fn page(&self) -> &Page
+        ensures { result.now.contents ≡ self.now }
+    {
+        &self.page
+    }
+}
