@@ -6,6 +6,7 @@ ghost use Rattle.point_query.specs.Elements.{elements_from_point};
 use crate::reply::OutOfMemory;
 use box_tree::{Done, Edit, EditFault};
 use fractions::{Ledger, Steps};
+use point_query::Engine;
 use std::alloc::Global;
 
 /// What keeps the page, and is asked for each edit and each query.
@@ -35,4 +36,23 @@ pub trait Desk {
         requires y { IsWithin 26 y }
         ensures elements { IfOk result (λ ids. IfSome (page self.old) (λ was. ids.items ≡ elements_from_point was x y)) }
         ensures same { page self.new ≡ page self.old };
+}
+
+/// The engine, which tells its page.
+impl Desk for Engine {
+    ghost page = { λ engine. Some engine };
+
+    fn edit<L: Ledger>(&mut self, edit: &Edit, steps: &mut Steps<L>) -> Result<Done, EditFault> {
+        self.edit(edit, steps)
+    }
+
+    fn hit<L: Ledger>(
+        &mut self,
+        alloc: Global,
+        x: i64,
+        y: i64,
+        steps: &mut Steps<L>,
+    ) -> Result<Vec<u32>, OutOfMemory> {
+        Ok(point_query::hit(alloc, self, x, y, steps)?)
+    }
 }

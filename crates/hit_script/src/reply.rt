@@ -30,6 +30,12 @@ impl From<AllocError> for OutOfMemory {
     }
 }
 
+impl From<point_query::OutOfMemory> for OutOfMemory {
+    fn from(_error: point_query::OutOfMemory) -> OutOfMemory {
+        OutOfMemory
+    }
+}
+
 impl<T: Drop> From<AllocFailed<T>> for OutOfMemory {
     fn from(_error: AllocFailed<T>) -> OutOfMemory {
         OutOfMemory
