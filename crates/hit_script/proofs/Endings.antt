@@ -58,7 +58,7 @@ front_in_piece {left0} {left} {taken0} {taken} {page0} {page} {read} {begun} lef
     let so_far = replies_from first (lines (whole_lines (take read script))) in
     let front : TakesFront taken taken' (replies_from now (lines (whole_lines (unfinished (take read script) ++ bytes)))) = rw is_begun at (part now (stands.page_is script first told told_page)) in
     front_as taken0 taken' _ _ (all_replies first script read ∙ ap (λ (r : List ℕ). so_far ++ r) next)
-        (front_behind taken0 taken taken' so_far _ _ (stands.taken_is script first told told_page) front)
+    (front_behind taken0 taken taken' so_far _ _ (stands.taken_is script first told told_page) front)
 
 -- The end of the input.
 
@@ -86,7 +86,7 @@ front_in_last {left0} {left} {taken0} {taken} {page0} {page} {read} {begun} left
     let so_far = replies_from first (lines (whole_lines (take read script))) in
     let last = replies_from now (lines begun) in
     front_as taken0 taken' _ _ (last_replies first script begun read (stands.begun_is script told) end.1 ∙ ap (λ (r : List ℕ). so_far ++ r) (sym (append-nil last)))
-        (front_behind taken0 taken taken' so_far last [] (stands.taken_is script first told told_page) (part now (stands.page_is script first told told_page)))
+    (front_behind taken0 taken taken' so_far last [] (stands.taken_is script first told told_page) (part now (stands.page_is script first told told_page)))
 
 pub all_in_last : {left0 left taken0 taken : Option (List ℕ)} {page0 page : Option Contents} {read : ℕ} {begun : List ℕ} (left' taken' : Option (List ℕ)) → Stands left0 left taken0 taken page0 page read begun
     → Read left [] left' → IfSome left' (λ rest. rest ≡ [])
@@ -96,7 +96,7 @@ all_in_last {left0} {left} {taken0} {taken} {page0} {page} {read} {begun} left' 
     let end = at_end left' stands reads ended script told in
     let now = page_behind first (lines (whole_lines (take read script))) in
     all_as taken0 taken' _ _ (last_replies first script begun read (stands.begun_is script told) end.1)
-        (takes_both taken0 taken taken' _ _ (stands.taken_is script first told told_page) (all now (stands.page_is script first told told_page)))
+    (takes_both taken0 taken taken' _ _ (stands.taken_is script first told told_page) (all now (stands.page_is script first told told_page)))
 
 -- What is left after some bytes, fewer than 2^32.
 abbrev pub LeftShort : Option (List ℕ) → Option (List ℕ) → Type 0
@@ -221,9 +221,10 @@ ends_complete status.TooMuch ends calm_source calm_sink script told short = let 
 pub ends_full : {left0 left taken0 taken : Option (List ℕ)} {page0 : Option Contents} {rf0 rf wf0 wf : ℕ} (how : Status) → Ends how left0 left taken0 taken page0 rf0 rf wf0 wf
     → (script : List ℕ) → left0 ≡ Some script → 2 ^ 32 ≤ length script → left ≡ Some (drop (2 ^ 32) script) → how ≡ status.TooMuch
 ends_full {left0} {left} how ends script told long full = elim (too_much_or_not how) [
-    inl is ↦ is
-    | inr isnt ↦
-        let short = ends.not_too_much isnt script told in
-        let same : drop short.0 script ≡ drop (2 ^ 32) script = same_Some _ _ (sym short.3 ∙ full) in
-        let sizes : length script - short.0 ≡ length script - 2 ^ 32 = sym (length-drop short.0 script) ∙ ap length same ∙ length-drop (2 ^ 32) script in
-        absurd (omega (arith, sizes, short.1, short.2, long)) ]
+  | inl is ↦ is
+  | inr isnt ↦
+      let short = ends.not_too_much isnt script told in
+      let same : drop short.0 script ≡ drop (2 ^ 32) script = same_Some _ _ (sym short.3 ∙ full) in
+      let sizes : length script - short.0 ≡ length script - 2 ^ 32 = sym (length-drop short.0 script) ∙ ap length same ∙ length-drop (2 ^ 32) script in
+      absurd (omega (arith, sizes, short.1, short.2, long))
+]

@@ -86,8 +86,9 @@ unfolding unfinished
 newline_not_unfinished [] = no_newline
 newline_not_unfinished (b ∷ bs) =
     elim (cases_Bool (has_newline (b ∷ bs))) [
-        inl some ↦ rw some (newline_not_unfinished bs)
-        | inr none ↦ rw (none, none) refl ]
+      | inl some ↦ rw some (newline_not_unfinished bs)
+      | inr none ↦ rw (none, none) refl
+    ]
 
 -- Whole lines and the line that is only begun.
 
@@ -96,8 +97,9 @@ unfolding whole_lines unfinished
 whole_and_unfinished [] = refl
 whole_and_unfinished (b ∷ bs) =
     elim (cases_Bool (has_newline (b ∷ bs))) [
-        inl some ↦ rw (some, whole_and_unfinished bs) refl
-        | inr none ↦ rw none refl ]
+      | inl some ↦ rw (some, whole_and_unfinished bs) refl
+      | inr none ↦ rw none refl
+    ]
 
 -- a newline stays in what goes on
 pub newline_kept : (bytes more : List ℕ) → has_newline bytes ≡ true → has_newline (bytes ++ more) ≡ true
@@ -105,24 +107,27 @@ unfolding has_newline
 newline_kept [] more some = absurd (both_ways false refl some)
 newline_kept (b ∷ bs) more some =
     elim (cases_Bool (eqb b 10)) [
-        inl here ↦ rw here refl
-        | inr other ↦ let later : has_newline bs ≡ true = rw other at some in rw (other, newline_kept bs more later) refl ]
+      | inl here ↦ rw here refl
+      | inr other ↦ let later : has_newline bs ≡ true = rw other at some in rw (other, newline_kept bs more later) refl
+    ]
 
 pub whole_lines_more : (bytes more : List ℕ) → whole_lines (bytes ++ more) ≡ whole_lines bytes ++ whole_lines (unfinished bytes ++ more)
 unfolding whole_lines unfinished
 whole_lines_more [] more = refl
 whole_lines_more (b ∷ bs) more =
     elim (cases_Bool (has_newline (b ∷ bs))) [
-        inl some ↦ rw (some, newline_kept (b ∷ bs) more some, whole_lines_more bs more) refl
-        | inr none ↦ rw none refl ]
+      | inl some ↦ rw (some, newline_kept (b ∷ bs) more some, whole_lines_more bs more) refl
+      | inr none ↦ rw none refl
+    ]
 
 pub unfinished_more : (bytes more : List ℕ) → unfinished (bytes ++ more) ≡ unfinished (unfinished bytes ++ more)
 unfolding unfinished
 unfinished_more [] more = refl
 unfinished_more (b ∷ bs) more =
     elim (cases_Bool (has_newline (b ∷ bs))) [
-        inl some ↦ rw (some, newline_kept (b ∷ bs) more some, unfinished_more bs more) refl
-        | inr none ↦ rw none refl ]
+      | inl some ↦ rw (some, newline_kept (b ∷ bs) more some, unfinished_more bs more) refl
+      | inr none ↦ rw none refl
+    ]
 
 -- lines go on behind whole ones
 onto_first_append : (b : ℕ) (line : List ℕ) (xs ys : List (List ℕ)) → onto_first b ((line ∷ xs) ++ ys) ≡ onto_first b (line ∷ xs) ++ ys
@@ -134,21 +139,24 @@ unfolding lines has_newline whole_lines
 first_whole_line [] some = absurd (both_ways false refl some)
 first_whole_line (b ∷ bs) some =
     elim (cases_Bool (eqb b 10)) [
-        inl here ↦ ([], lines (whole_lines bs), rw (some, here) refl)
-        | inr other ↦
-            let later : has_newline bs ≡ true = rw other at some in
-            let first = first_whole_line bs later in
-            (b ∷ first.0, first.1, rw (some, other, first.2) refl) ]
+      | inl here ↦ ([], lines (whole_lines bs), rw (some, here) refl)
+      | inr other ↦
+          let later : has_newline bs ≡ true = rw other at some in
+          let first = first_whole_line bs later in
+          (b ∷ first.0, first.1, rw (some, other, first.2) refl)
+    ]
 
 pub lines_behind_whole : (bytes rest : List ℕ) → lines (whole_lines bytes ++ rest) ≡ lines (whole_lines bytes) ++ lines rest
 unfolding lines has_newline whole_lines
 lines_behind_whole [] rest = refl
 lines_behind_whole (b ∷ bs) rest =
     elim (cases_Bool (has_newline (b ∷ bs))) [
-        inl some ↦ elim (cases_Bool (eqb b 10)) [
-            inl here ↦ rw (some, here, lines_behind_whole bs rest) refl
-            | inr other ↦
-                let later : has_newline bs ≡ true = rw other at some in
-                let first = first_whole_line bs later in
-                rw (some, other, lines_behind_whole bs rest, first.2) refl ]
-        | inr none ↦ rw none refl ]
+      | inl some ↦ elim (cases_Bool (eqb b 10)) [
+        | inl here ↦ rw (some, here, lines_behind_whole bs rest) refl
+        | inr other ↦
+            let later : has_newline bs ≡ true = rw other at some in
+            let first = first_whole_line bs later in
+            rw (some, other, lines_behind_whole bs rest, first.2) refl
+      ]
+      | inr none ↦ rw none refl
+    ]

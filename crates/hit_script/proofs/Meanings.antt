@@ -46,7 +46,9 @@ pub answer_read : (page : Contents) (line : List ℕ) → (not (is_long line) &&
 unfolding answer_to meaning
 answer_read page line read_on =
     elim (cases_Bool (is_long line)) [
-        inl long ↦ rw long refl
-        | inr short ↦ elim (and_cases (not (is_long line)) (is_blank line) read_on) [
-            inl long ↦ absurd (both_ways (is_long line) short (not-false (is_long line) long))
-            | inr unblank ↦ rw (short, unblank) refl ] ]
+      | inl long ↦ rw long refl
+      | inr short ↦ elim (and_cases (not (is_long line)) (is_blank line) read_on) [
+        | inl long ↦ absurd (both_ways (is_long line) short (not-false (is_long line) long))
+        | inr unblank ↦ rw (short, unblank) refl
+      ]
+    ]

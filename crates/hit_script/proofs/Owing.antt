@@ -45,14 +45,16 @@ begun_behind begun byte = cond (eqb byte 10) [] (begun ++ byte ∷ [])
 pub begun_open : (begun : List ℕ) (byte : ℕ) → has_newline begun ≡ false → has_newline (begun_behind begun byte) ≡ false
 begun_open begun byte none =
     elim (cases_Bool (eqb byte 10)) [
-        inl newline ↦ rw newline no_newline
-        | inr other ↦ rw other (newline_not_pushed begun byte none other) ]
+      | inl newline ↦ rw newline no_newline
+      | inr other ↦ rw other (newline_not_pushed begun byte none other)
+    ]
 
 pub begun_unfinished : (begun rest : List ℕ) (byte : ℕ) → has_newline begun ≡ false → unfinished (begun_behind begun byte ++ rest) ≡ unfinished (begun ++ byte ∷ rest)
 begun_unfinished begun rest byte none =
     elim (cases_Bool (eqb byte 10)) [
-        inl newline ↦ let is : byte ≡ 10 = eqb-true byte 10 newline in rw (newline, is, unfinished_next begun rest none) refl
-        | inr other ↦ rw (other, append_assoc) refl ]
+      | inl newline ↦ let is : byte ≡ 10 = eqb-true byte 10 newline in rw (newline, is, unfinished_next begun rest none) refl
+      | inr other ↦ rw (other, append_assoc) refl
+    ]
 
 -- a byte that is taken keeps what is owed
 pub owes_byte : {page : Option Contents} {out replies : List ℕ} {behind : Contents} (begun rest : List ℕ) (byte : ℕ) (after : Option Contents) (written : List ℕ) → has_newline begun ≡ false → Owes page out (begun ++ byte ∷ rest) replies behind
@@ -61,12 +63,13 @@ pub owes_byte : {page : Option Contents} {out replies : List ℕ} {behind : Cont
     → Owes after written (begun_behind begun byte ++ rest) replies behind
 owes_byte {page} {out} {replies} {behind} begun rest byte after written none owed moves writes =
     elim (cases_Bool (eqb byte 10)) [
-        inl newline ↦
-            let is : byte ≡ 10 = eqb-true byte 10 newline in
-            rw newline (owes_newline begun rest after written none (rw is at owed) (rw newline at moves) (rw newline at writes))
-        | inr other ↦ rw (other, append_assoc) (record {
-            now = owed.now;
-            told = (rw other at moves) owed.now owed.told;
-            completed = rw ((rw other at writes) owed.now owed.told, append-nil) owed.completed;
-            behind_them = owed.behind_them;
-          }) ]
+      | inl newline ↦
+          let is : byte ≡ 10 = eqb-true byte 10 newline in
+          rw newline (owes_newline begun rest after written none (rw is at owed) (rw newline at moves) (rw newline at writes))
+      | inr other ↦ rw (other, append_assoc) (record {
+        now = owed.now;
+        told = (rw other at moves) owed.now owed.told;
+        completed = rw ((rw other at writes) owed.now owed.told, append-nil) owed.completed;
+        behind_them = owed.behind_them;
+      })
+    ]

@@ -28,7 +28,7 @@ pub front_behind : (a b c : Option (List ℕ)) (xs ys more : List ℕ) → Takes
 front_behind a b c xs ys more all front =
     let n = min front.0 (length ys) in
     let cut : take (length xs + n) (xs ++ (ys ++ more)) ≡ xs ++ take front.0 ys =
-        rw (take-append-add xs (ys ++ more) n, take-append-le n ys more (min-le_right front.0 (length ys)), take_min front.0 ys) refl in
+    rw (take-append-add xs (ys ++ more) n, take-append-le n ys more (min-le_right front.0 (length ys)), take_min front.0 ys) refl in
     (length xs + n, rw cut (takes_both a b c xs (take front.0 ys) all front.1))
 
 -- A run that began with these bytes left, these bytes taken and this page has read so many bytes: the sink has taken the
@@ -91,7 +91,7 @@ stands_more {left0} {left} {taken0} {taken} {page0} {page} {read} {begun} left' 
       let more = left_more left left' bytes script read (stands.left_is script told) reads in
       let took = takes _ (stands.page_is script first told told_page) in
       rw (read_front bytes more.0 script read more.2, lines_more (take read script) bytes, replies_from-append, ← stands.begun_is script told)
-          (takes_both taken0 taken taken' _ _ (stands.taken_is script first told told_page) took);
+      (takes_both taken0 taken taken' _ _ (stands.taken_is script first told told_page) took);
 }
 
 -- A count that rose after it did not fall rose.

@@ -4,12 +4,10 @@ ghost use Rattle.serde_json.specs.Errors.{IsMemory};
 ghost use Rattle.hit_script.specs.Lines.{is_blank as blank};
 ghost use Rattle.hit_script.specs.Command.{is_long, json_reading, meaning, IsAskable};
 
-
 use crate::reading::command_from;
 use box_tree::Edit;
 use serde_json::{Category, Error, Value};
 use std::alloc::Global;
-
 
 /// What a line asks for.
 #[derive(Debug, Drop)]

@@ -21,3 +21,6 @@ pub use reply::{OutOfMemory, Reply, print};
 pub use script::run;
 pub use sinks::{Sink, SinkFault, StdSink, Taken};
 pub use sources::{Bytes, Calm, Failed, Source, StdSource};
+
+#[cfg(test)]
+mod tests;

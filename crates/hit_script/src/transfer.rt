@@ -6,11 +6,7 @@ use crate::sinks::{Sink, SinkFault};
 use crate::sources::{Failed, Source};
 
 /// Reads at most `room` bytes to the front of `piece`, and answers how many: none at the end of the input.
-pub fn read_piece<S: Source>(
-    source: &mut S,
-    piece: &mut [u8],
-    room: usize,
-) -> Result<usize, Failed>
+pub fn read_piece<S: Source>(source: &mut S, piece: &mut [u8], room: usize) -> Result<usize, Failed>
     requires some { 0 < room }
     requires room { room ≤ length piece.old }
     ensures within { IfOk result (λ n. n ≤ room) }

@@ -73,9 +73,9 @@ returns-in-Err g c =
     let part = rw (c.in-Err.is, same) at c.reply_to.ensures.part in
     let below : c.pieces.read + length bytes < 2 ^ 32 = omega (arith, long, reads.within, c.room_after.ensures.most, c.if-read-eq-MOST.false) in
     ends_by_sink c.in-Err.fault c.status_of.result _ _ _ _ _ _ _ _ _ c.status_of.ensures
-        (λ e. rose_since _ _ _ kept.write_faults (c.reply_to.ensures.failed (c.in-Err.is ∙ ap Err e)))
-        (front_in_piece _ _ bytes kept.stands reads.read part)
-        (short_with_piece _ bytes kept.stands reads.read below)
+    (λ e. rose_since _ _ _ kept.write_faults (c.reply_to.ensures.failed (c.in-Err.is ∙ ap Err e)))
+    (front_in_piece _ _ bytes kept.stands reads.read part)
+    (short_with_piece _ bytes kept.stands reads.read below)
 
 pub pieces-smaller : goal.pieces-smaller
 pieces-smaller g c = omega (arith, c.in-Ok-read_piece.ensures.within, c.room_after.ensures.most, c.if-count-eq0.false, c.if-read-eq-MOST.false)
@@ -121,6 +121,6 @@ returns g c =
     let part = rw (c.in-Err-reply_to_last.is, c.deref-2.ensures.value) at c.reply_to_last.ensures.part in
     let below : c.pieces.read + 0 < 2 ^ 32 = omega (arith, kept.below) in
     ends_by_sink c.in-Err-reply_to_last.fault c.status_of-in-Err-reply_to_last.result _ _ _ _ _ _ _ _ _ c.status_of-in-Err-reply_to_last.ensures
-        (λ e. rose_since _ _ _ kept.write_faults (c.reply_to_last.ensures.failed (c.in-Err-reply_to_last.is ∙ ap Err e)))
-        (front_in_last _ _ kept.stands reads ended part)
-        (short_with_piece _ [] kept.stands reads below)
+    (λ e. rose_since _ _ _ kept.write_faults (c.reply_to_last.ensures.failed (c.in-Err-reply_to_last.is ∙ ap Err e)))
+    (front_in_last _ _ kept.stands reads ended part)
+    (short_with_piece _ [] kept.stands reads below)
