@@ -1,0 +1,45 @@
+-- Replies and pages over lines that go on.
+use Rattle.std.proofs.Common.{◌≡◌, ◌<◌, ℕ, suc, eqb, true, false, List, [], ◌∷◌, ◌++◌, length, refl, ap, sym, ◌∙◌, append_assoc, arith}
+use Rattle.std.proofs.lemmas.Bool.{both_ways, eqb-true}
+use Rattle.std.proofs.lemmas.List.{append-nil}
+use Rattle.box_tree.specs.Contents.{Contents}
+use Rattle.hit_script.specs.Lines.{lines, has_newline, whole_lines, unfinished}
+use Rattle.hit_script.specs.Script.{answer_to, replies_from, page_behind}
+use Rattle.hit_script.proofs.LineLaws.{whole_and_unfinished, whole_lines_more, lines_behind_whole, lines_last, no_lines}
+
+nat_apart : {n : ℕ} → suc n ≡ 0 → ⊥
+nat_apart e = omega arith
+
+some_length : (line : List ℕ) → eqb (length line) 0 ≡ false → 0 < length line
+some_length [] some = absurd (both_ways true some refl)
+some_length (b ∷ bs) some = omega arith
+
+pub replies_from-append : (page : Contents) (xs ys : List (List ℕ)) → replies_from page (xs ++ ys) ≡ replies_from page xs ++ replies_from (page_behind page xs) ys
+replies_from-append page [] ys = refl
+replies_from-append page (x ∷ xs) ys = rw (replies_from-append (answer_to page x).page xs ys) (sym (append_assoc (answer_to page x).reply _ _))
+
+pub page_behind-append : (page : Contents) (xs ys : List (List ℕ)) → page_behind page (xs ++ ys) ≡ page_behind (page_behind page xs) ys
+page_behind-append page [] ys = refl
+page_behind-append page (x ∷ xs) ys = page_behind-append (answer_to page x).page xs ys
+
+-- the whole lines of a text that goes on
+pub lines_more : (bytes more : List ℕ) → lines (whole_lines (bytes ++ more)) ≡ lines (whole_lines bytes) ++ lines (whole_lines (unfinished bytes ++ more))
+lines_more bytes more = rw (whole_lines_more bytes more) (lines_behind_whole bytes (whole_lines (unfinished bytes ++ more)))
+
+-- all lines of a text that goes on
+pub all_lines_more : (bytes more : List ℕ) → lines (bytes ++ more) ≡ lines (whole_lines bytes) ++ lines (unfinished bytes ++ more)
+all_lines_more bytes more =
+    let split : bytes ++ more ≡ whole_lines bytes ++ (unfinished bytes ++ more) = ap (λ b. b ++ more) (sym (whole_and_unfinished bytes)) ∙ append_assoc (whole_lines bytes) (unfinished bytes) more in
+    ap lines split ∙ lines_behind_whole bytes (unfinished bytes ++ more)
+
+-- The last line, which has no newline.
+
+pub lines_of_nothing : (line : List ℕ) → eqb (length line) 0 ≡ true → lines line ≡ []
+lines_of_nothing [] empty = no_lines
+lines_of_nothing (b ∷ bs) empty = absurd (nat_apart (eqb-true (length (b ∷ bs)) 0 empty))
+
+pub replies_last : (page : Contents) (line : List ℕ) → has_newline line ≡ false → eqb (length line) 0 ≡ false → replies_from page (lines line) ≡ (answer_to page line).reply
+replies_last page line none some = rw (lines_last line none (some_length line some), append-nil) refl
+
+pub page_last : (page : Contents) (line : List ℕ) → has_newline line ≡ false → eqb (length line) 0 ≡ false → page_behind page (lines line) ≡ (answer_to page line).page
+page_last page line none some = rw (lines_last line none (some_length line some)) refl

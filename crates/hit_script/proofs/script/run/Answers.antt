@@ -1,0 +1,97 @@
+use Rattle.std.proofs.Common.{◌≡◌, ◌≢◌, [], length, eqb, false, true, refl, ap, sym, ◌∙◌}
+use Rattle.std.proofs.lemmas.Bool.{eqb-true, eqb-false}
+use Rattle.std.proofs.lemmas.List.{nil_from_length}
+use Rattle.hit_script.proofs.Endings.{first_told, ends_complete, ends_full}
+use Rattle.hit_script.proofs.script.run.Goals as goal
+
+-- With a word nothing is done.
+
+pub returns-then-not-is_empty-clause-headline : goal.returns-then-not-is_empty-clause-headline
+returns-then-not-is_empty-clause-headline g c e script told page =
+    absurd (cc)
+
+pub returns-then-not-is_empty-clause-to_the_end : goal.returns-then-not-is_empty-clause-to_the_end
+returns-then-not-is_empty-clause-to_the_end g c e script told =
+    absurd (cc)
+
+pub returns-then-not-is_empty-clause-front : goal.returns-then-not-is_empty-clause-front
+returns-then-not-is_empty-clause-front g c none script told page =
+    absurd (eqb-false (length c.args.words.now) 0 (sym c.is_empty.ensures ∙ c.if-not-is_empty.true) (ap length none))
+
+pub returns-then-not-is_empty-clause-whole : goal.returns-then-not-is_empty-clause-whole
+returns-then-not-is_empty-clause-whole g c e read rest told now page =
+    absurd (cc)
+
+pub returns-then-not-is_empty-clause-usage : goal.returns-then-not-is_empty-clause-usage
+returns-then-not-is_empty-clause-usage g c =
+    (λ e none. eqb-false (length c.args.words.now) 0 (sym c.is_empty.ensures ∙ c.if-not-is_empty.true) (ap length none), λ some. refl)
+
+pub returns-then-not-is_empty-clause-untouched : goal.returns-then-not-is_empty-clause-untouched
+returns-then-not-is_empty-clause-untouched g c e =
+    (refl, refl, refl, refl)
+
+pub returns-then-not-is_empty-clause-read_fault : goal.returns-then-not-is_empty-clause-read_fault
+returns-then-not-is_empty-clause-read_fault g c e =
+    absurd (cc)
+
+pub returns-then-not-is_empty-clause-write_fault : goal.returns-then-not-is_empty-clause-write_fault
+returns-then-not-is_empty-clause-write_fault g c e =
+    absurd (cc)
+
+pub returns-then-not-is_empty-clause-too_much : goal.returns-then-not-is_empty-clause-too_much
+returns-then-not-is_empty-clause-too_much g c e script told =
+    absurd (cc)
+
+pub returns-then-not-is_empty-clause-too_much_always : goal.returns-then-not-is_empty-clause-too_much_always
+returns-then-not-is_empty-clause-too_much_always g c none script told long full =
+    absurd (eqb-false (length c.args.words.now) 0 (sym c.is_empty.ensures ∙ c.if-not-is_empty.true) (ap length none))
+
+pub returns-then-not-is_empty-clause-complete : goal.returns-then-not-is_empty-clause-complete
+returns-then-not-is_empty-clause-complete g c none calm_source calm_sink script told short =
+    absurd (eqb-false (length c.args.words.now) 0 (sym c.is_empty.ensures ∙ c.if-not-is_empty.true) (ap length none))
+
+-- Without words the script is played from the first page.
+
+pub returns-clause-headline : goal.returns-clause-headline
+returns-clause-headline g c done script told page =
+    c.play.ensures.replied done script _ told (first_told _ c.requires page)
+
+pub returns-clause-to_the_end : goal.returns-clause-to_the_end
+returns-clause-to_the_end g c done script told =
+    c.play.ensures.to_the_end done script told
+
+pub returns-clause-front : goal.returns-clause-front
+returns-clause-front g c none script told page =
+    c.play.ensures.front script _ told (first_told _ c.requires page)
+
+pub returns-clause-whole : goal.returns-clause-whole
+returns-clause-whole g c failed read rest told now page =
+    c.play.ensures.whole failed read rest _ told now (first_told _ c.requires page)
+
+pub returns-clause-usage : goal.returns-clause-usage
+returns-clause-usage g c =
+    (λ e none. c.play.ensures.usage e, λ some. absurd (some (nil_from_length c.args.words.now (eqb-true (length c.args.words.now) 0 (sym c.is_empty.ensures ∙ c.if-not-is_empty.false)))))
+
+pub returns-clause-untouched : goal.returns-clause-untouched
+returns-clause-untouched g c e =
+    absurd (c.play.ensures.usage e)
+
+pub returns-clause-read_fault : goal.returns-clause-read_fault
+returns-clause-read_fault g c =
+    c.play.ensures.read_fault
+
+pub returns-clause-write_fault : goal.returns-clause-write_fault
+returns-clause-write_fault g c =
+    c.play.ensures.write_fault
+
+pub returns-clause-too_much : goal.returns-clause-too_much
+returns-clause-too_much g c =
+    c.play.ensures.too_much
+
+pub returns-clause-too_much_always : goal.returns-clause-too_much_always
+returns-clause-too_much_always g c none script told long full =
+    ends_full c.play.result c.play.ensures script told long full
+
+pub returns-clause-complete : goal.returns-clause-complete
+returns-clause-complete g c none calm_source calm_sink script told short =
+    ends_complete c.play.result c.play.ensures calm_source calm_sink script told short

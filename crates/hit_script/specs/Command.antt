@@ -1,0 +1,152 @@
+-- What a line of a script asks for, as a function of its JSON reading.
+use Rattle.std.specs.Prelude.{ℕ, ◌+◌, ◌^◌, ◌&&◌, ◌==◌, nat_lt, if◌then◌else◌, ℤ, pos, negsuc, ◌+ℤ◌, int_le, unsigned_abs, Bool, true, false, List, [], ◌∷◌, length, codes, Option, Some, None, option_map, option_and_then, Result, Ok, Err}
+use Rattle.std.specs.Option.{option_map_or, ok_or}
+use Rattle.std.specs.Str.{bytes_eq, is_utf8}
+use Rattle.serde_json.specs.Data.{Data, Items, no_items, item}
+use Rattle.serde_json.specs.Events.{items_len, members_len}
+use Rattle.serde_json.specs.Find.{get, at, as_number, as_i64, as_str, as_array, as_object}
+use Rattle.serde_json.specs.Read.{read}
+use Rattle.box_tree.specs.declared.kind.Kind.{Kind}
+use Rattle.box_tree.specs.declared.kind.Kind.TheVariants.{Block}
+use Rattle.box_tree.specs.declared.piece.Piece.{Piece}
+use Rattle.box_tree.specs.declared.edit.Edit.TheVariants.{Add}
+use Rattle.box_tree.specs.Edited.{IsInRange}
+use Rattle.box_tree.specs.Contents.{IsWithin}
+use Rattle.hit_script.specs.declared.command.Command.{Command}
+use Rattle.hit_script.specs.declared.command.Command.TheVariants.{Edit, Hit}
+use Rattle.hit_script.specs.declared.command.LineFault.{LineFault}
+use Rattle.hit_script.specs.declared.command.LineFault.TheVariants as fault
+
+-- One reading after another: there is none where one of them finds nothing.
+infixl 10 ◌>>=◌
+abbrev pub ◌>>=◌ : {A B : Type 0} → Option A → (A → Option B) → Option B
+found >>= next = option_and_then next found
+
+-- a whole number, which is a JSON number that `as_i64` reads, within two bounds
+unfoldable pub number_within : ℤ → ℤ → Data → Option ℤ
+number_within low high d = do
+  n ← as_number d >>= as_i64
+  if int_le low n && int_le n high then Some n else None
+
+-- a whole number from -2^26 to 2^26
+abbrev pub coordinate : Data → Option ℤ
+coordinate = number_within (negsuc 67108863) (pos 67108864)
+
+-- a whole number from 0 to 2^26
+abbrev pub side : Data → Option ℤ
+side = number_within (pos 0) (pos 67108864)
+
+-- a whole number from 0 to the bound
+abbrev pub number_to : ℕ → Data → Option ℕ
+number_to high d = option_map unsigned_abs (number_within (pos 0) (pos high) d)
+
+-- the value is an array of so many items
+abbrev pub is_array_of : ℕ → Data → Bool
+is_array_of n d = option_map_or (λ items. items_len items == n) (as_array d) false
+
+-- the value is an object of so many keys, each of which stands in it once
+abbrev pub is_object_of : ℕ → Data → Bool
+is_object_of n d = option_map_or (λ members. members_len members == n) (as_object d) false
+
+-- a box whose right and bottom edges are at most 2^26
+abbrev pub box_at : ℕ → ℤ → ℤ → ℤ → ℤ → Option Piece
+box_at line l t w h =
+    if int_le (l +ℤ w) (pos 67108864) && int_le (t +ℤ h) (pos 67108864)
+    then Some (record { line = line; l = l; t = t; w = w; h = h })
+    else None
+
+-- the five numbers of a box
+abbrev pub box_numbers : Data → Option Piece
+box_numbers d = do
+  line ← at 0 d >>= number_to 65535
+  left ← at 1 d >>= coordinate
+  top ← at 2 d >>= coordinate
+  width ← at 3 d >>= side
+  height ← at 4 d >>= side
+  box_at line left top width height
+
+-- a box, which is written `[line,l,t,w,h]`
+unfoldable pub box_of : Data → Option Piece
+box_of d = if is_array_of 5 d then box_numbers d else None
+
+-- each item as a box
+abbrev pub each_box : Items → Option (List Piece)
+each_box no_items = Some []
+each_box (item d ds) = do
+  box ← box_of d
+  boxes ← each_box ds
+  Some (box ∷ boxes)
+
+abbrev pub boxes_of : Data → Option (List Piece)
+boxes_of d = as_array d >>= each_box
+
+abbrev pub kind_named : List ℕ → Option Kind
+kind_named name = if bytes_eq name (codes "block") then Some Block else None
+
+-- the empty style, which is the only one
+abbrev pub style_of : Data → Option (Unit {0})
+style_of d = if is_object_of 0 d then Some tt else None
+
+-- the parent, the place and the kind of a new node, whose style is given too
+unfoldable pub new_node : Data → Option (ℕ × ℕ × Kind)
+new_node d = do
+  parent ← get (codes "parent") d >>= number_to 4294967295
+  place ← get (codes "at") d >>= number_to 4294967295
+  kind ← get (codes "kind") d >>= as_str >>= kind_named
+  style ← get (codes "style") d >>= style_of
+  Some (parent, place, kind)
+
+abbrev pub add_fields : Data → Option Command
+add_fields d = do
+  node ← new_node d
+  boxes ← get (codes "boxes") d >>= boxes_of
+  Some (Edit (Add node.0 node.1 node.2 boxes))
+
+-- the row of `add`, its keys in any order and no other key
+unfoldable pub add_of : Data → Option Command
+add_of d = if is_object_of 6 d then add_fields d else None
+
+abbrev pub hit_fields : Data → Option Command
+hit_fields d = do
+  x ← get (codes "x") d >>= coordinate
+  y ← get (codes "y") d >>= coordinate
+  Some (Hit x y)
+
+-- the row of `hit`, its keys in any order and no other key
+unfoldable pub hit_of : Data → Option Command
+hit_of d = if is_object_of 3 d then hit_fields d else None
+
+-- the command by the row of an op
+abbrev pub row_named : List ℕ → Data → Option Command
+row_named op d =
+    if bytes_eq op (codes "add") then add_of d
+    else if bytes_eq op (codes "hit") then hit_of d
+    else None
+
+-- the command that an object spells, by its key `op`
+unfoldable pub command_reading : Data → Option Command
+command_reading d = do
+  op ← get (codes "op") d >>= as_str
+  row_named op d
+
+-- the JSON reading of a line: there is none for bytes that aren't UTF-8, and none for a nesting above 127
+unfoldable pub json_reading : List ℕ → Option Data
+json_reading line = if is_utf8 line then read line else None
+
+-- a line of more than 1,048,576 bytes
+abbrev pub is_long : List ℕ → Bool
+is_long line = nat_lt (2 ^ 20) (length line)
+
+-- the command of a reading, where there is one
+abbrev pub command_or_fault : Option Data → Result Command LineFault
+command_or_fault None = Err fault.Syntax
+command_or_fault (Some d) = ok_or (command_reading d) fault.Command
+
+-- what a line means: a command, or the first fault that it has
+unfoldable pub meaning : List ℕ → Result Command LineFault
+meaning line = if is_long line then Err fault.Long else command_or_fault (json_reading line)
+
+-- the numbers of a command are within their limits
+abbrev pub IsAskable : Command → Type 0
+IsAskable (Edit edit) = IsInRange edit
+IsAskable (Hit x y) = IsWithin 26 x × IsWithin 26 y

@@ -1,0 +1,35 @@
+-- The lines of a script.
+use Rattle.std.specs.List.{list_all}
+use Rattle.std.specs.Prelude.{ℕ, List, [], ◌∷◌, ◌++◌, Bool, true, false, ◌||◌, ◌&&◌, ◌==◌, if◌then◌else◌}
+
+-- a byte put before the first of some lines, where there is none as a line of its own
+abbrev pub onto_first : ℕ → List (List ℕ) → List (List ℕ)
+onto_first byte [] = (byte ∷ []) ∷ []
+onto_first byte (line ∷ lines) = (byte ∷ line) ∷ lines
+
+-- The pieces between newline bytes. The last one counts where it isn't empty.
+unfoldable pub lines : List ℕ → List (List ℕ)
+lines [] = []
+lines (byte ∷ bytes) = if byte == 10 then [] ∷ lines bytes else onto_first byte (lines bytes)
+
+unfoldable pub has_newline : List ℕ → Bool
+has_newline [] = false
+has_newline (byte ∷ bytes) = (byte == 10) || has_newline bytes
+
+-- The bytes up to and with the last newline, and none where there is no newline.
+unfoldable pub whole_lines : List ℕ → List ℕ
+whole_lines [] = []
+whole_lines (byte ∷ bytes) = if has_newline (byte ∷ bytes) then byte ∷ whole_lines bytes else []
+
+-- The bytes behind the last newline, and all of them where there is no newline.
+unfoldable pub unfinished : List ℕ → List ℕ
+unfinished [] = []
+unfinished (byte ∷ bytes) = if has_newline (byte ∷ bytes) then unfinished bytes else byte ∷ bytes
+
+-- a space, a tab or a carriage return
+abbrev pub is_blank_byte : ℕ → Bool
+is_blank_byte byte = (byte == 32) || (byte == 9) || (byte == 13)
+
+-- Only spaces, tabs and carriage returns.
+abbrev pub is_blank : List ℕ → Bool
+is_blank line = list_all is_blank_byte line

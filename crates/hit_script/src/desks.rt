@@ -1,0 +1,58 @@
+ghost use Rattle.std.specs.Prelude.{◌≡◌, ◌≢◌, Option, Some, None, option_map, IfOk, IfErr, IfSome, OnOk, OnErr};
+ghost use Rattle.box_tree.specs.Contents.{Contents, IsWithin};
+ghost use Rattle.box_tree.specs.Edited.{IsInRange, edited, answer_of, first_fault};
+ghost use Rattle.point_query.specs.Elements.{elements_from_point};
+
+use crate::reply::OutOfMemory;
+use box_tree::{Done, Edit, EditFault};
+use fractions::{Ledger, Steps};
+use point_query::Engine;
+use std::alloc::Global;
+
+/// What keeps the page, and is asked for each edit and each query.
+pub trait Desk {
+    /// The page, where it is known. Whether it is known never changes.
+    ghost page: { Self → Option Contents };
+
+    /// Changes the page, or refuses the edit by its first fault and changes nothing.
+    fn edit<L: Ledger>(&mut self, edit: &Edit, steps: &mut Steps<L>) -> Result<Done, EditFault>
+        requires { IsInRange edit.now }
+        ensures accepted { OnOk result (IfSome (page self.old) (λ was. first_fault was edit.now ≡ None)) }
+        ensures answer { IfOk result (λ done. IfSome (page self.old) (λ was. done ≡ answer_of was edit.now)) }
+        ensures edited { OnOk result (page self.new ≡ option_map (λ was. edited was edit.now) (page self.old)) }
+        ensures refused { IfErr result (λ why. why ≢ EditFault.OutOfMemory
+            → IfSome (page self.old) (λ was. first_fault was edit.now ≡ Some why)) }
+        ensures same { OnErr result (page self.new ≡ page self.old) };
+
+    /// The elements under a point, topmost first. The coordinates are in units of 1/64 px.
+    fn hit<L: Ledger>(
+        &mut self,
+        alloc: Global,
+        x: i64,
+        y: i64,
+        steps: &mut Steps<L>,
+    ) -> Result<Vec<u32>, OutOfMemory>
+        requires x { IsWithin 26 x }
+        requires y { IsWithin 26 y }
+        ensures elements { IfOk result (λ ids. IfSome (page self.old) (λ was. ids.items ≡ elements_from_point was x y)) }
+        ensures same { page self.new ≡ page self.old };
+}
+
+/// The engine, which tells its page.
+impl Desk for Engine {
+    ghost page = { λ engine. Some engine };
+
+    fn edit<L: Ledger>(&mut self, edit: &Edit, steps: &mut Steps<L>) -> Result<Done, EditFault> {
+        self.edit(edit, steps)
+    }
+
+    fn hit<L: Ledger>(
+        &mut self,
+        alloc: Global,
+        x: i64,
+        y: i64,
+        steps: &mut Steps<L>,
+    ) -> Result<Vec<u32>, OutOfMemory> {
+        Ok(point_query::hit(alloc, self, x, y, steps)?)
+    }
+}

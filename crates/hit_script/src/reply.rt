@@ -1,0 +1,141 @@
+ghost use Rattle.std.specs.Prelude.{◌≡◌, ◌++◌, ◌∷◌, [], OnOk, OnErr, decimal};
+ghost use Rattle.std.specs.List.{flat_map};
+ghost use Rattle.hit_script.specs.Reply.{line_of, line_fault_number, line_fault_name, fault_line, listed, hit_line, reply_line, HasLine, Keeps};
+
+use crate::command::LineFault;
+use box_tree::EditFault;
+use itoa::Buffer;
+use std::alloc::{AllocError, AllocFailed};
+
+/// What a line is answered with.
+#[derive(Clone, Copy, Debug)]
+pub enum Reply<'a> {
+    /// The id of the node that an accepted add made.
+    Node(u32),
+    /// Any other accepted edit.
+    Done,
+    /// The members under a point, topmost first.
+    Hit(&'a [u32]),
+    Line(LineFault),
+    Edit(EditFault),
+}
+
+/// Memory was wanting.
+#[derive(Clone, Copy, Debug, PartialEq, Eq)]
+pub struct OutOfMemory;
+
+impl From<AllocError> for OutOfMemory {
+    fn from(_error: AllocError) -> OutOfMemory {
+        OutOfMemory
+    }
+}
+
+impl From<point_query::OutOfMemory> for OutOfMemory {
+    fn from(_error: point_query::OutOfMemory) -> OutOfMemory {
+        OutOfMemory
+    }
+}
+
+impl<T: Drop> From<AllocFailed<T>> for OutOfMemory {
+    fn from(_error: AllocFailed<T>) -> OutOfMemory {
+        OutOfMemory
+    }
+}
+
+impl LineFault {
+    /// The number of the fault in replies, and none for want of memory.
+    pub fn number(&self) -> Option<u8>
+        ensures { result ≡ line_fault_number self.now }
+    {
+        match self {
+            LineFault::Long => Some(1),
+            LineFault::Syntax => Some(2),
+            LineFault::Command => Some(3),
+            LineFault::OutOfMemory => None,
+        }
+    }
+
+    /// The name of the fault in replies.
+    pub fn name(&self) -> &'static str
+        ensures { result.now ≡ line_fault_name self.now }
+    {
+        match self {
+            LineFault::Long => "long",
+            LineFault::Syntax => "syntax",
+            LineFault::Command => "command",
+            LineFault::OutOfMemory => "memory",
+        }
+    }
+}
+
+/// Puts the line of a reply, with its newline, behind what `out` has. Where memory is wanting, `out` is as before.
+pub fn print(reply: &Reply<'_>, out: &mut Vec<u8>) -> Result<(), OutOfMemory>
+    requires { HasLine reply.now }
+    ensures ok { OnOk result (out.new.items ≡ out.old.items ++ reply_line reply.now) }
+    ensures err { OnErr result (out.new.items ≡ out.old.items) }
+{
+    let before = out.as_slice().len();
+    if append(reply, out).is_err() {
+        out.truncate(before);
+        return Err(OutOfMemory);
+    }
+    Ok(())
+}
+
+fn append(reply: &Reply<'_>, out: &mut Vec<u8>) -> Result<(), AllocError>
+    ensures ok { OnOk result (out.new.items ≡ out.old.items ++ reply_line reply.now) }
+    ensures kept { Keeps out.old.items out.new.items }
+{
+    match reply {
+        Reply::Node(id) => {
+            out.extend_from_slice(b"node ")?;
+            append_number(*id, out)?;
+            out.extend_from_slice(b"\n")
+        }
+        Reply::Done => out.extend_from_slice(b"ok\n"),
+        Reply::Hit(ids) => append_hit(ids, out),
+        Reply::Line(why) => append_fault(why.number(), why.name(), out),
+        Reply::Edit(why) => append_fault(why.number(), why.name(), out),
+    }
+}
+
+fn append_number(number: u32, out: &mut Vec<u8>) -> Result<(), AllocError>
+    ensures ok { OnOk result (out.new.items ≡ out.old.items ++ decimal number) }
+    ensures kept { Keeps out.old.items out.new.items }
+{
+    let mut buffer = Buffer::new();
+    out.extend_from_slice(buffer.format(number).as_bytes())
+}
+
+fn append_listed(id: u32, out: &mut Vec<u8>) -> Result<(), AllocError>
+    ensures ok { OnOk result (out.new.items ≡ out.old.items ++ listed id) }
+    ensures kept { Keeps out.old.items out.new.items }
+{
+    out.extend_from_slice(b" ")?;
+    append_number(id, out)
+}
+
+fn append_hit(ids: &[u32], out: &mut Vec<u8>) -> Result<(), AllocError>
+    ensures ok { OnOk result (out.new.items ≡ out.old.items ++ hit_line ids.now) }
+    ensures kept { Keeps out.old.items out.new.items }
+{
+    out.extend_from_slice(b"hit")?;
+    for id in ids {
+        append_listed(*id, out)?;
+    }
+    out.extend_from_slice(b"\n")
+}
+
+fn append_fault(number: Option<u8>, name: &str, out: &mut Vec<u8>) -> Result<(), AllocError>
+    ensures ok { OnOk result (out.new.items ≡ out.old.items ++ fault_line number name.now) }
+    ensures kept { Keeps out.old.items out.new.items }
+{
+    if let Some(number) = number {
+        out.extend_from_slice(b"err ")?;
+        append_number(u32::from(number), out)?;
+        out.extend_from_slice(b" ")?;
+        out.extend_from_slice(name.as_bytes())?;
+        out.extend_from_slice(b"\n")?;
+    }
+    Ok(())
+}

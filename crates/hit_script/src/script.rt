@@ -1,0 +1,130 @@
+// The loop over the pieces of a script, and the top call.
+ghost use Rattle.std.specs.Prelude.{◌≡◌, ◌≢◌, ◌↔◌, ◌⊎◌, ℕ, List, [], ◌++◌, ◌+◌, ◌<◌, ◌≤◌, ◌^◌, Option, Some, IfSome, IsSome, length, drop};
+ghost use Rattle.hit_script.specs.Ending.{Ends};
+ghost use Rattle.hit_script.specs.Ends.{Rose, TakesAll, TakesFront};
+ghost use Rattle.hit_script.specs.Lines.{whole_lines};
+ghost use Rattle.hit_script.specs.Outcome.{fault_status};
+ghost use Rattle.hit_script.specs.Script.{first_page, replies};
+
+use crate::desks::Desk;
+use crate::outcome::Status;
+use crate::sinks::{Sink, SinkFault};
+use crate::sources::Source;
+use crate::transfer::read_piece;
+use crate::turns::{reply_to, reply_to_last};
+use fractions::{Ledger, Steps};
+use std::alloc::Global;
+
+/// The most bytes that one read asks for.
+const PIECE: usize = 1 << 16;
+
+/// The most bytes that are read in all.
+const MOST: u64 = 1 << 32;
+
+// How many bytes to ask for after so many.
+fn room_after(read: u64) -> usize
+    requires { read < 2 ^ 32 }
+    ensures some { 0 < result }
+    ensures piece { result ≤ 2 ^ 16 }
+    ensures most { read + result ≤ 2 ^ 32 }
+{
+    (MOST - read).min(PIECE as u64) as usize
+}
+
+// The status of a run whose sink failed, or wanted memory.
+fn status_of(fault: SinkFault) -> Status
+    ensures { result ≡ fault_status fault }
+{
+    match fault {
+        SinkFault::Failed => Status::WriteFault,
+        SinkFault::OutOfMemory => Status::Memory,
+    }
+}
+
+// A run without words.
+#[tactic(none)]
+fn play<S: Source, K: Sink, D: Desk, L: Ledger>(
+    alloc: Global,
+    source: &mut S,
+    sink: &mut K,
+    desk: &mut D,
+    steps: &mut Steps<L>,
+) -> Status
+    ensures { Ends result (S.left source.old) (S.left source.new) (K.taken sink.old) (K.taken sink.new) (D.page desk.old)
+        (S.faults source.old) (S.faults source.new) (K.faults sink.old) (K.faults sink.new) }
+{
+    let Ok(mut piece) = vec![in alloc; 0u8; PIECE] else {
+        return Status::Memory;
+    };
+    let mut begun = Vec::new(alloc);
+    let mut read = 0;
+    'pieces: loop {
+        let Ok(count) = read_piece(source, &mut piece, room_after(read)) else {
+            return Status::ReadFault;
+        };
+        if count == 0 {
+            break;
+        }
+        read += count as u64;
+        if read == MOST {
+            return Status::TooMuch;
+        }
+        if let Err(fault) = reply_to(alloc, &piece[..count], sink, desk, steps, &mut begun) {
+            return status_of(fault);
+        }
+    }
+    match reply_to_last(alloc, &begun, sink, desk, steps) {
+        Ok(()) => Status::Done,
+        Err(fault) => status_of(fault),
+    }
+}
+
+/// Runs a script on the desk: each line that isn't blank gets one reply line. The script comes in pieces of at most 65,536
+/// bytes, fewer than 2^32 in all, and the replies to the lines that are whole are written before each further read.
+///
+/// `words` are those after the program's name; any word is a usage fault. Units are 1/64 px, and the page begins with a
+/// viewport of 81,920 by 46,080.
+#[tactic(none)]
+pub fn run<S: Source, K: Sink, D: Desk, L: Ledger>(
+    alloc: Global,
+    words: &[String],
+    source: &mut S,
+    sink: &mut K,
+    desk: &mut D,
+    steps: &mut Steps<L>,
+) -> Status
+    // Where the desk tells its page, it is the first one.
+    requires { IfSome (D.page desk.old) (λ page. page ≡ first_page) }
+
+    // The headline: for every script, with Done the sink has taken the replies to it, and nothing is left of it.
+    ensures headline { result ≡ Status.Done → (script : List ℕ) → S.left source.old ≡ Some script → IsSome (D.page desk.old)
+        → TakesAll (K.taken sink.old) (K.taken sink.new) (replies script) }
+    ensures to_the_end { result ≡ Status.Done → (script : List ℕ) → S.left source.old ≡ Some script → S.left source.new ≡ Some [] }
+
+    // However it ends, the sink has taken a front of the same replies.
+    ensures front { words.now ≡ [] → (script : List ℕ) → S.left source.old ≡ Some script → IsSome (D.page desk.old)
+        → TakesFront (K.taken sink.old) (K.taken sink.new) (replies script) }
+
+    // With ReadFault they are just the replies to the whole lines of the bytes that were read.
+    ensures whole { result ≡ Status.ReadFault → (read rest : List ℕ) → S.left source.old ≡ Some (read ++ rest) → S.left source.new ≡ Some rest → IsSome (D.page desk.old)
+        → TakesAll (K.taken sink.old) (K.taken sink.new) (replies (whole_lines read)) }
+
+    // The causes.
+    ensures usage { (result ≡ Status.Usage) ↔ (words.now ≢ []) }
+    ensures untouched { result ≡ Status.Usage → (source.new ≡ source.old) × (sink.new ≡ sink.old) × (desk.new ≡ desk.old) × (steps.new ≡ steps.old) }
+    ensures read_fault { result ≡ Status.ReadFault → Rose (S.faults source.old) (S.faults source.new) }
+    ensures write_fault { result ≡ Status.WriteFault → Rose (K.faults sink.old) (K.faults sink.new) }
+    ensures too_much { result ≡ Status.TooMuch → (script : List ℕ) → S.left source.old ≡ Some script
+        → (2 ^ 32 ≤ length script) × (S.left source.new ≡ Some (drop (2 ^ 32) script)) }
+    ensures too_much_always { words.now ≡ [] → (script : List ℕ) → S.left source.old ≡ Some script
+        → 2 ^ 32 ≤ length script → S.left source.new ≡ Some (drop (2 ^ 32) script) → result ≡ Status.TooMuch }
+
+    // Completeness: where no count rose and the input is short enough, only memory can be wanting.
+    ensures complete { words.now ≡ [] → ¬ Rose (S.faults source.old) (S.faults source.new) → ¬ Rose (K.faults sink.old) (K.faults sink.new)
+        → (script : List ℕ) → S.left source.old ≡ Some script → length script < 2 ^ 32 → (result ≡ Status.Done) ⊎ (result ≡ Status.Memory) }
+{
+    if !words.is_empty() {
+        return Status::Usage;
+    }
+    play(alloc, source, sink, desk, steps)
+}

@@ -1,0 +1,428 @@
+// Whole runs, bytes in and bytes out. Each expected output was worked out by hand.
+ghost use Rattle.std.specs.Prelude.{◌≡◌, ◌<◌};
+
+use crate::{
+    Bytes, Calm, Command, Failed, LineFault, OutOfMemory, Reply, Sink, SinkFault, Source, Status,
+    StdSink, StdSource, Taken, command_of, is_blank, print, run,
+};
+use box_tree::EditFault;
+use fractions::{Blank, Brand, Ledger, Steps};
+use point_query::Engine;
+use std::alloc::{AllocError, Global};
+use std::io;
+use std::process::Abort;
+use std::test::Fail;
+
+/// A piece as large as any.
+const EVER: usize = 65536;
+
+/// Two blocks in a root, and two questions.
+const THREE_BLOCKS: &[u8] =
+    br#"{"op":"add","parent":0,"at":0,"kind":"block","boxes":[[0,0,0,100,100]],"style":{}}
+{"op":"add","parent":1,"at":0,"kind":"block","boxes":[[0,10,10,40,40]],"style":{}}
+{"op":"add","parent":1,"at":1,"kind":"block","boxes":[[0,30,30,40,40]],"style":{}}
+{"op":"hit","x":35,"y":35}
+{"op":"hit","x":200,"y":200}
+"#;
+
+const THREE_BLOCKS_REPLIES: &[u8] = b"node 1\nnode 2\nnode 3\nhit 3 2 1\nhit 1\n";
+
+fn run_on_new_page<S: Source, L: Ledger>(
+    alloc: Global,
+    words: &[String],
+    source: &mut S,
+    sink: &mut Taken,
+    blank: Blank,
+) -> Result<Status, OutOfMemory>
+    requires name { blank.name ≡ L.name }
+    requires parts { blank.parts ≡ L.parts }
+    requires some_parts { 0 < blank.parts }
+{
+    let mut desk = Engine::new(alloc, 81920, 46080)?;
+    let mut steps = Steps::<L>::new(blank);
+    Ok(run(alloc, words, source, sink, &mut desk, &mut steps))
+}
+
+fn play_with<S: Source>(
+    alloc: Global,
+    words: &[String],
+    source: &mut S,
+    sink: &mut Taken,
+) -> Result<Status, OutOfMemory> {
+    run_on_new_page::<S, Brand>(alloc, words, source, sink, Blank::new(1))
+}
+
+fn play<S: Source>(alloc: Global, source: &mut S, sink: &mut Taken) -> Result<Status, OutOfMemory> {
+    play_with(alloc, &[], source, sink)
+}
+
+fn sink_of(alloc: Global, piece: usize, failing: &[u64]) -> Result<Taken, AllocError>
+    requires { 0 < piece }
+{
+    Ok(Taken {
+        bytes: Vec::new(alloc),
+        piece,
+        failing: Vec::from_slice(alloc, failing)?,
+        calls: 0,
+        faults: 0,
+    })
+}
+
+fn source_of(
+    alloc: Global,
+    bytes: &[u8],
+    piece: usize,
+    failing: &[u64],
+) -> Result<Bytes, AllocError>
+    requires { 0 < piece }
+{
+    Ok(Bytes {
+        bytes: Vec::from_slice(alloc, bytes)?,
+        at: 0,
+        piece,
+        failing: Vec::from_slice(alloc, failing)?,
+        calls: 0,
+        faults: 0,
+    })
+}
+
+fn calm_run(alloc: Global, script: &[u8], sink: &mut Taken) -> Result<Status, OutOfMemory> {
+    let mut source = Calm {
+        bytes: Vec::from_slice(alloc, script)?,
+        at: 0,
+    };
+    play(alloc, &mut source, sink)
+}
+
+// Scripts and the replies to them.
+
+const ROOT: &[u8] =
+    br#"{"op":"add","parent":0,"at":0,"kind":"block","boxes":[[0,0,0,100,100]],"style":{}}"#;
+
+/// The faults of an edit in their order, none of which uses up an id.
+const REFUSALS: &[u8] = br#"{"op":"hit","x":5,"y":5}
+{"op":"add","parent":1,"at":0,"kind":"block","boxes":[[0,0,0,1,1]],"style":{}}
+{"op":"add","parent":0,"at":0,"kind":"block","boxes":[],"style":{}}
+{"op":"add","parent":0,"at":1,"kind":"block","boxes":[[0,0,0,1,1]],"style":{}}
+{"op":"add","parent":0,"at":0,"kind":"block","boxes":[[0,0,0,100,100]],"style":{}}
+{"op":"add","parent":0,"at":0,"kind":"block","boxes":[[0,0,0,1,1]],"style":{}}
+{"op":"add","parent":1,"at":1,"kind":"block","boxes":[],"style":{}}
+{"op":"sing"}
+{"op":"add","parent":1,"at":0,"kind":"block","boxes":[],"style":{}}
+{"op":"hit","x":5,"y":5}
+"#;
+
+const REFUSALS_REPLIES: &[u8] =
+    b"hit\nerr 4 absent\nerr 6 kind\nerr 8 place\nnode 1\nerr 5 root\nerr 8 place\nerr 3 command\nnode 2\nhit 1\n";
+
+/// Numbers, each in the place of x, on a page without a root.
+const NUMBERS: &[u8] = br#"{"op":"hit","x":1.0,"y":0}
+{"op":"hit","x":-0,"y":0}
+{"op":"hit","x":1e2,"y":0}
+{"op":"hit","x":9223372036854775808,"y":0}
+{"op":"hit","x":18446744073709551616,"y":0}
+{"op":"hit","x":1e400,"y":0}
+{"op":"hit","x":67108864,"y":0}
+{"op":"hit","x":67108865,"y":0}
+{"op":"hit","x":-67108864,"y":0}
+{"op":"hit","x":-67108865,"y":0}
+{"op":"hit","x":"1","y":0}
+"#;
+
+const NUMBERS_REPLIES: &[u8] =
+    b"err 3 command\nerr 3 command\nerr 3 command\nerr 3 command\nerr 3 command\nerr 2 syntax\nhit\nerr 3 command\nhit\nerr 3 command\nerr 3 command\n";
+
+/// Keys in any order, a key too few or too many, and a key that stands twice, of which the last value counts.
+const KEYS: &[u8] = br#"{"y":5,"op":"hit","x":5}
+{"style":{},"boxes":[[0,0,0,9,9]],"kind":"block","at":0,"parent":0,"op":"add"}
+{"op":"hit","x":1}
+{"op":"hit","x":5,"y":5,"z":1}
+{"op":"hit","x":99999999,"x":5,"y":5}
+{"op":"hit","op":"top","x":5,"y":5}
+{"x":5,"y":5}
+{"op":7,"x":5,"y":5}
+{"op":"add","parent":1,"at":0,"kind":"block","boxes":[]}
+"#;
+
+const KEYS_REPLIES: &[u8] =
+    b"hit\nnode 1\nerr 3 command\nerr 3 command\nhit 1\nerr 3 command\nerr 3 command\nerr 3 command\nerr 3 command\n";
+
+/// What stands in the place of an object, and white space round one.
+const FORMS: &[u8] =
+    b"[]\nnull\n\"hit\"\n{\"op\":\"\\ud800\"}\n \t{\"op\":\"hit\",\"x\":0,\"y\":0} \r\n\r\n \t\r\n\xff\n{\"op\":\"hit\",\"x\":0,\"y\":0}{}\n{}";
+
+const FORMS_REPLIES: &[u8] =
+    b"err 3 command\nerr 3 command\nerr 3 command\nerr 2 syntax\nhit\nerr 2 syntax\nerr 2 syntax\nerr 3 command\n";
+
+/// The values of an add: boxes, kind, style, parent and place.
+const VALUES: &[u8] =
+    br#"{"op":"add","parent":0,"at":0,"kind":"block","boxes":[[65536,0,0,1,1]],"style":{}}
+{"op":"add","parent":0,"at":0,"kind":"block","boxes":[[0,0,0,-1,1]],"style":{}}
+{"op":"add","parent":0,"at":0,"kind":"block","boxes":[[0,1,0,67108864,1]],"style":{}}
+{"op":"add","parent":0,"at":0,"kind":"block","boxes":[[0,0,67108864,1,1]],"style":{}}
+{"op":"add","parent":0,"at":0,"kind":"block","boxes":[[0,0,0,1]],"style":{}}
+{"op":"add","parent":0,"at":0,"kind":"block","boxes":[[0,0,0,1,1,1]],"style":{}}
+{"op":"add","parent":0,"at":0,"kind":"block","boxes":{},"style":{}}
+{"op":"add","parent":0,"at":0,"kind":"svg","boxes":[[0,0,0,1,1]],"style":{}}
+{"op":"add","parent":0,"at":0,"kind":"block","boxes":[[0,0,0,1,1]],"style":{"z":1}}
+{"op":"add","parent":0,"at":0,"kind":"block","boxes":[[0,0,0,1,1]],"style":[]}
+{"op":"add","parent":-1,"at":0,"kind":"block","boxes":[[0,0,0,1,1]],"style":{}}
+{"op":"add","parent":4294967296,"at":0,"kind":"block","boxes":[[0,0,0,1,1]],"style":{}}
+{"op":"add","parent":4294967295,"at":0,"kind":"block","boxes":[[0,0,0,1,1]],"style":{}}
+{"op":"add","parent":0,"at":4294967295,"kind":"block","boxes":[[0,0,0,1,1]],"style":{}}
+{"op":"add","parent":0,"at":0,"kind":"block","boxes":[[0,0,0,1,1],[0,0,0,1,1]],"style":{}}
+{"op":"add","parent":0,"at":0,"kind":"block","boxes":[[65535,-67108864,-67108864,67108864,67108864]],"style":{}}
+"#;
+
+const VALUES_REPLIES: &[u8] =
+    b"err 3 command\nerr 3 command\nerr 3 command\nerr 3 command\nerr 3 command\nerr 3 command\nerr 3 command\nerr 3 command\nerr 3 command\nerr 3 command\nerr 3 command\nerr 3 command\nerr 4 absent\nerr 8 place\nerr 6 kind\nnode 1\n";
+
+fn assert_replies(
+    rt: &impl Abort,
+    alloc: Global,
+    script: &[u8],
+    replies: &[u8],
+) -> Result<(), Fail> {
+    let mut sink = sink_of(alloc, EVER, &[])?;
+    let status = calm_run(alloc, script, &mut sink)?;
+    assert_eq!(rt; status, Status::Done);
+    assert_eq!(rt; sink.bytes.as_slice(), replies);
+    Ok(())
+}
+
+#[test]
+fn scripts_are_answered(rt: HostRuntime) -> Result<(), Fail> {
+    assert_replies(&rt, rt.alloc(), b"", b"")?;
+    assert_replies(&rt, rt.alloc(), THREE_BLOCKS, THREE_BLOCKS_REPLIES)?;
+    assert_replies(&rt, rt.alloc(), REFUSALS, REFUSALS_REPLIES)?;
+    assert_replies(&rt, rt.alloc(), NUMBERS, NUMBERS_REPLIES)?;
+    assert_replies(&rt, rt.alloc(), KEYS, KEYS_REPLIES)?;
+    assert_replies(&rt, rt.alloc(), FORMS, FORMS_REPLIES)?;
+    assert_replies(&rt, rt.alloc(), VALUES, VALUES_REPLIES)?;
+    assert_replies(&rt, rt.alloc(), ROOT, b"node 1\n")
+}
+
+// A byte so often, and a newline.
+fn push_line(script: &mut Vec<u8>, byte: u8, count: usize) -> Result<(), AllocError> {
+    for _ in 0..count {
+        script.push(byte)?;
+    }
+    script.push(b'\n')?;
+    Ok(())
+}
+
+// Brackets so deep, and a newline.
+fn push_nest(script: &mut Vec<u8>, depth: usize) -> Result<(), AllocError> {
+    for _ in 0..depth {
+        script.push(b'[')?;
+    }
+    push_line(script, b']', depth)
+}
+
+#[test]
+fn lines_are_tested_in_order(rt: HostRuntime) -> Result<(), Fail> {
+    let mut script = Vec::new(rt.alloc());
+    push_line(&mut script, b' ', 0)?;
+    push_line(&mut script, b'a', 1048577)?;
+    push_line(&mut script, b'a', 1048576)?;
+    push_line(&mut script, b' ', 1048577)?;
+    push_line(&mut script, b' ', 1048576)?;
+    push_nest(&mut script, 127)?;
+    push_nest(&mut script, 128)?;
+    script.extend_from_slice(
+        br#"{"op":"hit","x":1.0,"y":0}
+{"op":"hit","x":1}
+{"op":"top","x":0,"y":0"#,
+    )?;
+    assert_replies(
+        &rt,
+        rt.alloc(),
+        &script,
+        b"err 1 long\nerr 2 syntax\nerr 1 long\nerr 3 command\nerr 2 syntax\nerr 3 command\nerr 3 command\nerr 2 syntax\n",
+    )
+}
+
+/// The pieces that an end gives or takes, and its calls that fail.
+#[derive(Clone, Copy)]
+struct Plan<'a> {
+    piece: usize,
+    failing: &'a [u64],
+    ghost some_piece: { 0 < piece },
+}
+
+fn planned(piece: usize, failing: &[u64]) -> Plan<'_>
+    requires { 0 < piece }
+{
+    Plan { piece, failing }
+}
+
+// What comes of the script of three blocks between two ends.
+fn assert_outcome(
+    rt: &impl Abort,
+    alloc: Global,
+    from: Plan<'_>,
+    to: Plan<'_>,
+    status: Status,
+    replies: &[u8],
+) -> Result<(), Fail> {
+    let mut source = source_of(alloc, THREE_BLOCKS, from.piece, from.failing)?;
+    let mut sink = sink_of(alloc, to.piece, to.failing)?;
+    assert_eq!(rt; play(alloc, &mut source, &mut sink)?, status);
+    assert_eq!(rt; sink.bytes.as_slice(), replies);
+    Ok(())
+}
+
+#[test]
+fn pieces_of_any_size_come_and_go(rt: HostRuntime) -> Result<(), Fail> {
+    let whole = planned(EVER, &[]);
+    for piece in [1, 7, 83] {
+        let small = planned(piece, &[]);
+        assert_outcome(
+            &rt,
+            rt.alloc(),
+            small,
+            whole,
+            Status::Done,
+            THREE_BLOCKS_REPLIES,
+        )?;
+        assert_outcome(
+            &rt,
+            rt.alloc(),
+            whole,
+            small,
+            Status::Done,
+            THREE_BLOCKS_REPLIES,
+        )?;
+    }
+    Ok(())
+}
+
+#[test]
+fn a_failure_leaves_the_replies_so_far(rt: HostRuntime) -> Result<(), Fail> {
+    let alloc = rt.alloc();
+    let whole = planned(EVER, &[]);
+    let line = planned(83, &[]);
+    assert_outcome(
+        &rt,
+        alloc,
+        planned(83, &[2]),
+        whole,
+        Status::ReadFault,
+        b"node 1\n",
+    )?;
+    assert_outcome(&rt, alloc, planned(83, &[1]), whole, Status::ReadFault, b"")?;
+    assert_outcome(
+        &rt,
+        alloc,
+        planned(EVER, &[2]),
+        whole,
+        Status::ReadFault,
+        THREE_BLOCKS_REPLIES,
+    )?;
+    assert_outcome(
+        &rt,
+        alloc,
+        line,
+        planned(EVER, &[1]),
+        Status::WriteFault,
+        b"",
+    )?;
+    assert_outcome(
+        &rt,
+        alloc,
+        line,
+        planned(3, &[2]),
+        Status::WriteFault,
+        b"nod",
+    )
+}
+
+#[test]
+fn a_word_is_a_usage_fault(rt: HostRuntime) -> Result<(), Fail> {
+    let mut source = source_of(rt.alloc(), THREE_BLOCKS, EVER, &[])?;
+    let mut sink = sink_of(rt.alloc(), EVER, &[])?;
+    let words = [String::from_str(rt.alloc(), "--load")?];
+    let status = play_with(rt.alloc(), &words, &mut source, &mut sink)?;
+    assert_eq!(rt; status, Status::Usage);
+    assert_eq!(rt; (source.calls, sink.calls), (0, 0));
+    Ok(())
+}
+
+/// A reader and writer that always fails.
+#[derive(Drop)]
+struct Broken;
+
+impl io::Read for Broken {
+    fn read(&mut self, _buf: &mut [u8]) -> io::Result<usize> {
+        Err(io::Error::from(io::ErrorKind::BrokenPipe))
+    }
+}
+
+impl io::Write for Broken {
+    fn write(&mut self, _buf: &[u8]) -> io::Result<usize> {
+        Err(io::Error::from(io::ErrorKind::BrokenPipe))
+    }
+
+    fn flush(&mut self) -> io::Result<()> {
+        Ok(())
+    }
+}
+
+#[test]
+fn std_ends_pass_bytes_on_and_count_faults(rt: HostRuntime) -> Result<(), Fail> {
+    let mut piece = [0; 4];
+    let text = [104, 105];
+    let mut source = StdSource {
+        from: text.as_slice(),
+        faults: 0,
+    };
+    assert_eq!(rt; source.read(&mut piece), Ok(2));
+    assert_eq!(rt; piece, [104, 105, 0, 0]);
+    assert_eq!(rt; source.read(&mut piece), Ok(0));
+    let mut sink = StdSink {
+        to: Vec::new(rt.alloc()),
+        faults: 0,
+    };
+    assert_eq!(rt; sink.write(&text), Ok(2));
+    assert_eq!(rt; sink.to.as_slice(), text.as_slice());
+    let mut no_source = StdSource {
+        from: Broken,
+        faults: 0,
+    };
+    assert_eq!(rt; no_source.read(&mut piece), Err(Failed));
+    let mut no_sink = StdSink {
+        to: Broken,
+        faults: 6,
+    };
+    assert_eq!(rt; no_sink.write(&text), Err(SinkFault::Failed));
+    assert_eq!(rt;
+        (source.faults, sink.faults, no_source.faults, no_sink.faults),
+        (0, 0, 1, 7)
+    );
+    Ok(())
+}
+
+#[test]
+fn a_line_is_read_and_a_reply_is_printed(rt: HostRuntime) -> Result<(), Fail> {
+    assert!(rt; is_blank(b" \t\r") && is_blank(b"") && !is_blank(b" a"));
+    let Command::Hit { x, y } = command_of(rt.alloc(), br#"{"x":-3,"y":4,"op":"hit"}"#)? else {
+        return Ok(assert!(rt; false));
+    };
+    assert_eq!(rt; (x, y), (-3, 4));
+    let mut out = Vec::new(rt.alloc());
+    print(&Reply::Node(4294967295), &mut out)?;
+    print(&Reply::Done, &mut out)?;
+    print(&Reply::Hit(&[10, 9]), &mut out)?;
+    print(&Reply::Line(LineFault::Long), &mut out)?;
+    print(&Reply::Edit(EditFault::Full), &mut out)?;
+    assert_eq!(rt;
+        out.as_slice(),
+        b"node 4294967295\nok\nhit 10 9\nerr 1 long\nerr 10 full\n".as_slice()
+    );
+    assert_eq!(rt;
+        (LineFault::Syntax.number(), LineFault::Command.name()),
+        (Some(2), "command")
+    );
+    assert_eq!(rt; Status::TooMuch.number(), 7);
+    Ok(())
+}

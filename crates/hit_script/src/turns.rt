@@ -1,0 +1,130 @@
+// A piece of a script, from its bytes to the replies of its whole lines.
+ghost use Rattle.std.specs.Prelude.{◌≡◌, ◌++◌, ◌∷◌, ◌==◌, ◌≤◌, [], false, Some, Err, OnOk, OnErr, if◌then◌else◌};
+ghost use Rattle.box_tree.specs.Contents.{Contents};
+ghost use Rattle.hit_script.specs.Ends.{Rose, TakesAll, TakesFront};
+ghost use Rattle.hit_script.specs.Lines.{lines, has_newline, whole_lines, unfinished};
+ghost use Rattle.hit_script.specs.Script.{answer_to, replies_from, page_behind};
+
+use crate::answers::answer;
+use crate::desks::Desk;
+use crate::reply::OutOfMemory;
+use crate::sinks::{Sink, SinkFault};
+use crate::transfer::write_all;
+use fractions::{Ledger, Steps};
+use std::alloc::Global;
+
+// Takes a byte of a script behind the line that is begun: a newline ends that line, which is answered.
+fn take_byte<D: Desk, L: Ledger>(
+    alloc: Global,
+    byte: u8,
+    desk: &mut D,
+    steps: &mut Steps<L>,
+    begun: &mut Vec<u8>,
+    out: &mut Vec<u8>,
+) -> Result<(), OutOfMemory>
+    ensures begun { OnOk result (begun.new.items ≡ (if byte == 10 then [] else begun.old.items ++ byte ∷ [])) }
+    ensures page { OnOk result ((page : Contents) → D.page desk.old ≡ Some page
+        → D.page desk.new ≡ Some (if byte == 10 then (answer_to page begun.old.items).page else page)) }
+    ensures reply { OnOk result ((page : Contents) → D.page desk.old ≡ Some page
+        → out.new.items ≡ out.old.items ++ (if byte == 10 then (answer_to page begun.old.items).reply else [])) }
+{
+    if byte == b'\n' {
+        answer(alloc, begun, desk, steps, out)?;
+        begun.clear();
+    } else {
+        begun.push(byte)?;
+    }
+    Ok(())
+}
+
+/// Takes a piece of a script behind the line that is begun. The replies to the lines that are whole now are put behind
+/// what `out` has, and the line that is begun then is kept.
+pub fn absorb<D: Desk, L: Ledger>(
+    alloc: Global,
+    piece: &[u8],
+    desk: &mut D,
+    steps: &mut Steps<L>,
+    begun: &mut Vec<u8>,
+    out: &mut Vec<u8>,
+) -> Result<(), OutOfMemory>
+    requires { has_newline begun.old.items ≡ false }
+    ensures begun { OnOk result (begun.new.items ≡ unfinished (begun.old.items ++ piece.now)) }
+    ensures page { OnOk result ((page : Contents) → D.page desk.old ≡ Some page
+        → D.page desk.new ≡ Some (page_behind page (lines (whole_lines (begun.old.items ++ piece.now))))) }
+    ensures replies { OnOk result ((page : Contents) → D.page desk.old ≡ Some page
+        → out.new.items ≡ out.old.items ++ replies_from page (lines (whole_lines (begun.old.items ++ piece.now)))) }
+{
+    for byte in piece {
+        take_byte(alloc, *byte, desk, steps, begun, out)?;
+    }
+    Ok(())
+}
+
+/// Takes a piece of a script behind the line that is begun, and hands the replies to the lines that are whole now to the
+/// sink. Where that fails the sink has taken a front of them.
+pub fn reply_to<K: Sink, D: Desk, L: Ledger>(
+    alloc: Global,
+    piece: &[u8],
+    sink: &mut K,
+    desk: &mut D,
+    steps: &mut Steps<L>,
+    begun: &mut Vec<u8>,
+) -> Result<(), SinkFault>
+    requires { has_newline begun.old.items ≡ false }
+    ensures begun { OnOk result (begun.new.items ≡ unfinished (begun.old.items ++ piece.now)) }
+    ensures page { OnOk result ((page : Contents) → D.page desk.old ≡ Some page
+        → D.page desk.new ≡ Some (page_behind page (lines (whole_lines (begun.old.items ++ piece.now))))) }
+    ensures replied { OnOk result ((page : Contents) → D.page desk.old ≡ Some page
+        → TakesAll (K.taken sink.old) (K.taken sink.new) (replies_from page (lines (whole_lines (begun.old.items ++ piece.now))))) }
+    ensures part { OnErr result ((page : Contents) → D.page desk.old ≡ Some page
+        → TakesFront (K.taken sink.old) (K.taken sink.new) (replies_from page (lines (whole_lines (begun.old.items ++ piece.now))))) }
+    ensures failed { result ≡ Err SinkFault.Failed → Rose (K.faults sink.old) (K.faults sink.new) }
+    ensures never_falls { K.faults sink.old ≤ K.faults sink.new }
+{
+    let mut out = Vec::new(alloc);
+    absorb(alloc, piece, desk, steps, begun, &mut out)?;
+    write_all(sink, &out)
+}
+
+// Answers a last line, which has no newline and counts where it isn't empty.
+fn answer_last<D: Desk, L: Ledger>(
+    alloc: Global,
+    line: &[u8],
+    desk: &mut D,
+    steps: &mut Steps<L>,
+    out: &mut Vec<u8>,
+) -> Result<(), OutOfMemory>
+    requires { has_newline line.now ≡ false }
+    ensures page { OnOk result ((page : Contents) → D.page desk.old ≡ Some page
+        → D.page desk.new ≡ Some (page_behind page (lines line.now))) }
+    ensures replies { OnOk result ((page : Contents) → D.page desk.old ≡ Some page
+        → out.new.items ≡ out.old.items ++ replies_from page (lines line.now)) }
+{
+    if line.is_empty() {
+        return Ok(());
+    }
+    answer(alloc, line, desk, steps, out)
+}
+
+/// Hands the reply to a last line, which has no newline, to the sink. Where that fails the sink has taken a front of it.
+pub fn reply_to_last<K: Sink, D: Desk, L: Ledger>(
+    alloc: Global,
+    line: &[u8],
+    sink: &mut K,
+    desk: &mut D,
+    steps: &mut Steps<L>,
+) -> Result<(), SinkFault>
+    requires { has_newline line.now ≡ false }
+    ensures page { OnOk result ((page : Contents) → D.page desk.old ≡ Some page
+        → D.page desk.new ≡ Some (page_behind page (lines line.now))) }
+    ensures replied { OnOk result ((page : Contents) → D.page desk.old ≡ Some page
+        → TakesAll (K.taken sink.old) (K.taken sink.new) (replies_from page (lines line.now))) }
+    ensures part { OnErr result ((page : Contents) → D.page desk.old ≡ Some page
+        → TakesFront (K.taken sink.old) (K.taken sink.new) (replies_from page (lines line.now))) }
+    ensures failed { result ≡ Err SinkFault.Failed → Rose (K.faults sink.old) (K.faults sink.new) }
+    ensures never_falls { K.faults sink.old ≤ K.faults sink.new }
+{
+    let mut out = Vec::new(alloc);
+    answer_last(alloc, line, desk, steps, &mut out)?;
+    write_all(sink, &out)
+}
