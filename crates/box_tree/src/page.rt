@@ -196,3 +196,6 @@ fn place_of(nodes: &[Node], id: u32) -> Option<usize>
 {
     nodes.binary_search_by_key(&id, |node| node.id).ok()
 }
+
+#[cfg(test)]
+mod tests;

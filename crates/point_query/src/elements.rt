@@ -154,3 +154,6 @@ fn is_last(ids: &[u32], root: u32) -> bool
         None => false,
     }
 }
+
+#[cfg(test)]
+mod tests;

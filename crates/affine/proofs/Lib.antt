@@ -1,0 +1,5 @@
+pub mod Bits
+pub mod FloorLemmas
+pub mod HullLemmas
+pub mod MapLemmas
+pub mod PointLemmas

@@ -1,0 +1,43 @@
+use Rattle.std.proofs.Common.{rules, refl, ◌≡◌, ◌≢◌, ◌∙◌, ap, sym, pos, ◌*ℤ◌, of_z, FitsSigned, arith}
+use Rattle.std.specs.Int.{w64, w128}
+use Rattle.std.proofs.lemmas.Int.{ints, to_z-of_z}
+use Rattle.fractions.proofs.Widths.{from_bits}
+use Rattle.affine.proofs.Bits.{narrow}
+use Rattle.affine.proofs.PointLemmas.{IsSamePoint-preimage}
+use Rattle.affine.proofs.FloorLemmas.{rounded_down-some}
+use Rattle.affine.specs.Point.{local_point, determinant, preimage}
+use Rattle.affine.proofs.points.local.Goals as goal
+
+pub returns-then-w-eq0-clause-value : goal.returns-then-w-eq0-clause-value
+unfolding local_point
+returns-then-w-eq0-clause-value c =
+    let zero : c.determinant_of-w.result ≡ pos 0 = omega (arith, ints) in
+    let det : determinant c.args.m.now ≡ pos 0 = rw (c.determinant_of-w.ensures.value, c.parts-parts.ensures.value) at zero in
+    rw det refl
+
+pub returns-then-w-eq0-clause-exact : goal.returns-then-w-eq0-clause-exact
+returns-then-w-eq0-clause-exact c = IsSamePoint-preimage c.args.m.now c.args.x c.args.y
+
+pub returns-clause-value : goal.returns-clause-value
+unfolding local_point
+returns-clause-value c =
+    let at = preimage c.args.m.now c.args.x c.args.y in
+    let x = to_z-of_z w64 c.args.x c.ranges.x in
+    let y = to_z-of_z w64 c.args.y c.ranges.y in
+    let parts = c.parts-parts.ensures.value in
+    let w = rw parts at c.determinant_of-w.ensures.value in
+    let left = rw (parts, x, y) at c.preimage_x.ensures.value in
+    let top = rw (parts, x, y) at c.preimage_y.ensures.value in
+    let read_w = from_bits c.determinant_of-w.result (narrow c.determinant_of-w.result (omega arith)) in
+    let read_left = from_bits c.preimage_x.result (narrow c.preimage_x.result (omega arith)) in
+    let read_top = from_bits c.preimage_y.result (narrow c.preimage_y.result (omega arith)) in
+    let floor_left = rw (read_left, left, read_w, w) at c.floor_in_fine_units.ensures.value in
+    let floor_top = rw (read_top, top, read_w, w) at c.floor_in_fine_units-2.ensures.value in
+    let fits_left : FitsSigned w128 c.floor_in_fine_units.result = search rules in
+    let fits_top : FitsSigned w128 c.floor_in_fine_units-2.result = search rules in
+    let some : determinant c.args.m.now ≢ pos 0 = λ zero. c.if-w-eq0.false (ap (of_z w128) (w ∙ zero)) in
+    rw (from_bits c.floor_in_fine_units.result fits_left, floor_left, from_bits c.floor_in_fine_units-2.result fits_top, floor_top)
+    (sym (rounded_down-some (pos 64 *ℤ at.x) (pos 64 *ℤ at.y) (determinant c.args.m.now) some))
+
+pub returns-clause-exact : goal.returns-clause-exact
+returns-clause-exact c = IsSamePoint-preimage c.args.m.now c.args.x c.args.y

@@ -1,0 +1,5 @@
+pub mod Function
+pub mod Gcd
+pub mod Hull
+pub mod Map
+pub mod Point

@@ -1,0 +1,16 @@
+// Declared styles, the inheritance of their values, and the property 'pointer-events'.
+//
+// It promises that one step of inheritance gives each property its declared value, or else the parent's; and that a
+// box and a shape are let through by a pointer exactly by their rows of the table of 'pointer-events'. The names are
+// those of CSS and SVG. It stands on std alone.
+#![tactic(auto)]
+
+mod function;
+mod memory;
+mod pointer_events;
+mod style;
+
+pub use function::{Function, Functions};
+pub use memory::OutOfMemory;
+pub use pointer_events::PointerEvents;
+pub use style::{Ends, Overflow, Position, Rule, Style};
