@@ -81,9 +81,9 @@ pub fn reply_to<K: Sink, D: Desk, L: Ledger>(
     ensures failed { result ≡ Err SinkFault.Failed → Rose (K.faults sink.old) (K.faults sink.new) }
     ensures never_falls { K.faults sink.old ≤ K.faults sink.new }
 {
-    let mut out = Vec::new(alloc);
-    absorb(alloc, piece, desk, steps, begun, &mut out)?;
-    write_all(sink, &out)
+    let mut replies = Vec::new(alloc);
+    absorb(alloc, piece, desk, steps, begun, &mut replies)?;
+    write_all(sink, &replies)
 }
 
 // Answers a last line, which has no newline and counts where it isn't empty.
@@ -124,7 +124,7 @@ pub fn reply_to_last<K: Sink, D: Desk, L: Ledger>(
     ensures failed { result ≡ Err SinkFault.Failed → Rose (K.faults sink.old) (K.faults sink.new) }
     ensures never_falls { K.faults sink.old ≤ K.faults sink.new }
 {
-    let mut out = Vec::new(alloc);
-    answer_last(alloc, line, desk, steps, &mut out)?;
-    write_all(sink, &out)
+    let mut reply = Vec::new(alloc);
+    answer_last(alloc, line, desk, steps, &mut reply)?;
+    write_all(sink, &reply)
 }
