@@ -1,6 +1,6 @@
 -- How a run ends, by how far it had come.
-use Rattle.std.proofs.Common.{◌≡◌, ◌≢◌, ◌<◌, ◌≤◌, ◌+◌, ◌^◌, ℕ, List, [], ◌++◌, length, take, drop, Option, Some, None, inl, inr, refl, ap, sym, ◌∙◌, append_assoc, arith}
-use Rattle.std.specs.Prelude.{IfSome, IsSome, ◌⊎◌, ◌-◌}
+use Rattle.std.proofs.Common.{◌≡◌, ◌≢◌, ◌<◌, ◌≤◌, ◌+◌, ◌^◌, ℕ, List, [], ◌++◌, length, take, drop, Option, Some, None, Result, Ok, Err, inl, inr, refl, ap, sym, ◌∙◌, append_assoc, arith}
+use Rattle.std.specs.Prelude.{IfSome, IsSome, OnOk, OnErr, ◌⊎◌, ◌-◌}
 use Rattle.std.proofs.lemmas.Option.{none-some, same_Some}
 use Rattle.std.proofs.lemmas.Bool.{false≢true}
 use Rattle.std.proofs.lemmas.List.{append-nil, take-append-drop, append_cancel_right, length-drop}
@@ -228,3 +228,13 @@ ends_full {left0} {left} how ends script told long full = elim (too_much_or_not 
       let sizes : length script - short.0 ≡ length script - 2 ^ 32 = sym (length-drop short.0 script) ∙ ap length same ∙ length-drop (2 ^ 32) script in
       absurd (omega (arith, sizes, short.1, short.2, long))
 ]
+
+-- What a sink took of the replies that are due, by what was handed to it.
+
+pub handed_all : {T E : Type 0} (r : Result T E) (page : Option Contents) (before after : Option (List ℕ)) (written : List ℕ) (due : Contents → List ℕ) → OnOk r (TakesAll before after written) → ((now : Contents) → page ≡ Some now → written ≡ due now) → OnOk r ((now : Contents) → page ≡ Some now → TakesAll before after (due now))
+handed_all (Ok x) page before after written due all is = λ now told. all_as before after written (due now) (sym (is now told)) all
+handed_all (Err e) page before after written due all is = tt
+
+pub handed_front : {T E : Type 0} (r : Result T E) (page : Option Contents) (before after : Option (List ℕ)) (written : List ℕ) (due : Contents → List ℕ) → TakesFront before after written → ((now : Contents) → page ≡ Some now → written ≡ due now) → OnErr r ((now : Contents) → page ≡ Some now → TakesFront before after (due now))
+handed_front (Ok x) page before after written due front is = tt
+handed_front (Err e) page before after written due front is = λ now told. front_as before after written (due now) (sym (is now told)) front

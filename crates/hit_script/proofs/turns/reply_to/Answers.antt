@@ -1,0 +1,22 @@
+use Rattle.std.proofs.Common.{◌++◌, ◌∙◌}
+use Rattle.hit_script.specs.Lines.{lines, whole_lines}
+use Rattle.hit_script.specs.Script.{replies_from}
+use Rattle.hit_script.proofs.Outcomes.{on_ok}
+use Rattle.hit_script.proofs.Endings.{handed_all, handed_front}
+use Rattle.hit_script.proofs.turns.reply_to.Goals as goal
+
+pub returns-clause-begun : goal.returns-clause-begun
+returns-clause-begun g c = on_ok c.write_all.result _ c.in_ok-absorb.ensures.begun
+
+pub returns-clause-page : goal.returns-clause-page
+returns-clause-page g c = on_ok c.write_all.result _ c.in_ok-absorb.ensures.page
+
+pub returns-clause-replied : goal.returns-clause-replied
+returns-clause-replied g c =
+    handed_all c.write_all.result _ _ _ _ (λ now. replies_from now (lines (whole_lines (c.args.begun.now.items ++ c.args.piece.now)))) c.write_all.ensures.ok
+    (λ now told. c.deref.ensures.value ∙ (rw c.new-replies.ensures.items at (c.in_ok-absorb.ensures.replies now told)))
+
+pub returns-clause-part : goal.returns-clause-part
+returns-clause-part g c =
+    handed_front c.write_all.result _ _ _ _ (λ now. replies_from now (lines (whole_lines (c.args.begun.now.items ++ c.args.piece.now)))) c.write_all.ensures.part
+    (λ now told. c.deref.ensures.value ∙ (rw c.new-replies.ensures.items at (c.in_ok-absorb.ensures.replies now told)))
