@@ -1,15 +1,17 @@
 -- Nodes in the order of their ids: what a search finds in them, and what an edit of the list does to it.
-use Rattle.std.proofs.Common.{◌≡◌, ◌≢◌, ℕ, zero, suc, ◌<◌, ◌≤◌, ◌==◌, List, [], ◌∷◌, ◌++◌, length, get_or, set, slice_get, Some, None, Result, Ok, Err, IfOk, IfErr, if◌then◌else◌, refl, sym, ap, inl, inr, arith}
+use Rattle.std.proofs.Common.{◌≡◌, ◌≢◌, ℕ, zero, suc, ◌<◌, ◌≤◌, ◌==◌, List, [], ◌∷◌, ◌++◌, length, get_or, set, slice_get, Some, None, Result, Ok, Err, IfOk, IfErr, Bool, true, false, is_ok, if◌then◌else◌, refl, sym, ap, inl, inr, arith}
 use Rattle.std.specs.Option.{option_or, option_map}
-use Rattle.std.specs.List.Sorted.{IsSearchInRange, IsBinarySearchResult, IsNonDecreasingBy}
+use Rattle.std.specs.List.Sorted.{IsSearchInRange, IsBinarySearchResult, IsNonDecreasing, IsNonDecreasingBy}
 use Rattle.std.specs.Ordering.{nat_cmp, ordering_index}
 use Rattle.std.proofs.lemmas.Cmp.{ranked}
+use Rattle.std.proofs.lemmas.List.Sorted.{searched as searched_numbers}
 use Rattle.std.proofs.lemmas.Bool.{cases_lt, cases_eq}
 use Rattle.std.proofs.lemmas.Bool.Decides.{nat_tests}
 use Rattle.box_tree.specs.declared.kind.Kind.TheVariants.{Block}
 use Rattle.box_tree.specs.declared.node.Node.{Node}
-use Rattle.std.specs.List.{insert}
+use Rattle.std.specs.List.{insert, filter}
 use Rattle.box_tree.specs.Kept.{node_with, IsRisingFrom}
+use Rattle.box_tree.specs.Planned.{is_among}
 use Rattle.box_tree.proofs.ForestLemmas.{with_child}
 
 -- the ids are above the number that they rise from
@@ -128,3 +130,54 @@ pub slice_get-read : (nodes : List Node) (i : ℕ) (n : Node) → i < length nod
 slice_get-read [] i n within read = absurd (omega arith)
 slice_get-read (first ∷ nodes) zero n within read = ap Some (sym read)
 slice_get-read (first ∷ nodes) (suc i) n within read = slice_get-read nodes i n (omega arith) read
+
+-- looking an id up where a node was changed that keeps its id
+pub node_with-replaced : (nodes : List Node) (low i id : ℕ) (n m : Node) → IsRisingFrom low nodes → slice_get nodes i ≡ Some n → m.id ≡ n.id → node_with (set nodes i m) id ≡ (if n.id == id then Some m else node_with nodes id)
+node_with-replaced [] low i id n m rising is same = absurd cc
+node_with-replaced (first ∷ nodes) low zero id n m rising is same = grind (arith, nat_tests)
+node_with-replaced (first ∷ nodes) low (suc i) id n m rising is same =
+    grind (arith, nat_tests, node_with-replaced nodes first.id i id n m rising.1 is same, above-slice nodes first.id i n rising.1 is)
+
+-- looking an id up where the nodes of some ids are kept
+pub node_with-filter : (keep : ℕ → Bool) (nodes : List Node) (id : ℕ) → node_with (filter (λ n. keep n.id) nodes) id ≡ (if keep id then node_with nodes id else None)
+node_with-filter keep [] id = nothing (keep id)
+  where
+    nothing : (b : Bool) → node_with [] id ≡ (if b then node_with [] id else None)
+    nothing true = refl
+    nothing false = refl
+node_with-filter keep (n ∷ nodes) id = by_test (node_with-filter keep nodes id) (keep n.id) refl
+  where
+    by_test : node_with (filter (λ m. keep m.id) nodes) id ≡ (if keep id then node_with nodes id else None) → (b : Bool) → keep n.id ≡ b → node_with (if b then n ∷ filter (λ m. keep m.id) nodes else filter (λ m. keep m.id) nodes) id ≡ (if keep id then (if n.id == id then Some n else node_with nodes id) else None)
+    by_test others true kept = grind (arith, nat_tests)
+    by_test others false dropped = grind (arith, nat_tests)
+
+-- the ids rise from a lower number too, and where some nodes are dropped
+rising-lower : (nodes : List Node) (low lower : ℕ) → lower ≤ low → IsRisingFrom low nodes → IsRisingFrom lower nodes
+rising-lower [] low lower le rising = tt
+rising-lower (n ∷ nodes) low lower le rising = (omega (arith, rising.0), rising.1)
+
+pub rising-filter : (keep : Node → Bool) (nodes : List Node) (low : ℕ) → IsRisingFrom low nodes → IsRisingFrom low (filter keep nodes)
+rising-filter keep [] low rising = tt
+rising-filter keep (n ∷ nodes) low rising = by_test (keep n) (rising-filter keep nodes n.id rising.1)
+  where
+    by_test : (b : Bool) → IsRisingFrom n.id (filter keep nodes) → IsRisingFrom low (if b then n ∷ filter keep nodes else filter keep nodes)
+    by_test true others = (rising.0, others)
+    by_test false others = rising-lower (filter keep nodes) n.id low (omega (arith, rising.0)) others
+
+-- what a search in ascending ids tells
+among-at : (ids : List ℕ) (i id : ℕ) → i < length ids → get_or ids i 0 ≡ id → is_among ids id ≡ true
+among-at [] i id within is = absurd (omega arith)
+among-at (first ∷ ids) zero id within is = grind (arith, nat_tests)
+among-at (first ∷ ids) (suc i) id within is = grind (arith, nat_tests, among-at ids i id)
+
+among-none : (ids : List ℕ) (id : ℕ) → ((k : ℕ) → k < length ids → get_or ids k 0 ≢ id) → is_among ids id ≡ false
+among-none [] id none = refl
+among-none (first ∷ ids) id none = grind (arith, nat_tests, none 0 (omega arith), among-none ids id (λ k within. none (suc k) (omega arith)))
+
+pub among-searched : (ids : List ℕ) (id : ℕ) (r : Result ℕ ℕ) → IsNonDecreasing ids → IsBinarySearchResult (λ other. nat_cmp other id) ids r → is_ok r ≡ is_among ids id
+among-searched ids id (Ok i) in_order result =
+    let found = searched_numbers ids id (Ok i) result (λ j k le within. in_order j k 0 le within) in
+    sym (among-at ids i id found.0 found.1)
+among-searched ids id (Err i) in_order result =
+    let absent = searched_numbers ids id (Err i) result (λ j k le within. in_order j k 0 le within) in
+    sym (among-none ids id (λ k within is. elim (cases_lt k i) [ inl before ↦ omega (arith, absent.1 k before) | inr after ↦ omega (arith, absent.2 k after within) ]))

@@ -6,3 +6,7 @@ pub mod KeptPages
 pub mod AddLemmas
 pub mod PlanLemmas
 pub mod PlacedLemmas
+pub mod SubtreeLemmas
+pub mod TakenLemmas
+pub mod CountLemmas
+pub mod RemoveLemmas

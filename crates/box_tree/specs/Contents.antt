@@ -1,11 +1,11 @@
 -- The contents of a page, what is read of it, and when it is valid.
 use Rattle.std.specs.Prelude.{ℕ, ◌+◌, ◌<◌, ◌≤◌, ◌^◌, List, [], ◌∷◌, length, Option, Bool, not, ◌==◌, nat_le, is_some, IsTrue, ℤ, pos, ◌≤ℤ◌, ◌+ℤ◌, neg_ℤ, map, All}
 use Rattle.std.specs.List.{filter}
-use Rattle.std.specs.Option.{option_map}
+use Rattle.std.specs.Option.{option_map, option_map_or}
 use Rattle.box_tree.specs.declared.piece.Piece.{Piece}
 use Rattle.box_tree.specs.declared.node.Node.{Node}
 use Rattle.box_tree.specs.declared.viewport.Viewport.{Viewport}
-use Rattle.box_tree.specs.Forest.{Label, Forest, End, roots_of, tree_order, node_count, height_of, occurrences, Placed, placed_in, EachNode}
+use Rattle.box_tree.specs.Forest.{Label, Forest, End, Grow, roots_of, tree_order, node_count, height_of, occurrences, Placed, placed_in, EachNode}
 
 -- what a page holds: a tree of nodes or none, the viewport and the next id
 pub record Contents : Type 0 where
@@ -36,6 +36,10 @@ node_at p = record {
 -- the place of an id in the page
 abbrev pub placed_of : Contents → ℕ → Option Placed
 placed_of page id = placed_in [] page.tree id
+
+-- the tree of a node: the node itself with all below it
+abbrev pub tree_of : Contents → ℕ → Forest
+tree_of page id = option_map_or (λ p. Grow p.label p.below End) (placed_of page id) End
 
 -- what a reader sees of the node of an id
 abbrev pub node_of : Contents → ℕ → Option Node

@@ -2,9 +2,9 @@
 use Rattle.std.specs.Prelude.{ℕ, zero, suc, ◌+◌, List, [], ◌∷◌, length, Option, Some, None, Bool, not, ◌&&◌, ◌||◌, if◌then◌else◌, ◌==◌, nat_lt, nat_le, All, codes}
 use Rattle.std.specs.Option.{option_map_or}
 use Rattle.box_tree.specs.declared.edit.Edit.{Edit}
-use Rattle.box_tree.specs.declared.edit.Edit.TheVariants.{Add}
+use Rattle.box_tree.specs.declared.edit.Edit.TheVariants.{Add, Remove}
 use Rattle.box_tree.specs.declared.edit.Done.{Done}
-use Rattle.box_tree.specs.declared.edit.Done.TheVariants.{Node as NodeAdded}
+use Rattle.box_tree.specs.declared.edit.Done.TheVariants.{Node as NodeAdded, Done as EditDone}
 use Rattle.box_tree.specs.declared.edit.EditFault.{EditFault}
 use Rattle.box_tree.specs.declared.edit.EditFault.TheVariants as fault
 use Rattle.box_tree.specs.Forest.{Label, Forest, End, Grow, roots_of, node_count}
@@ -13,6 +13,7 @@ use Rattle.box_tree.specs.Contents.{Contents, placed_of, has_id, depth_below, bo
 -- the numbers of an edit are within their limits
 abbrev pub IsInRange : Edit → Type 0
 IsInRange (Add parent at kind boxes) = All IsBoxInRange boxes
+IsInRange (Remove id) = Unit {0}
 
 -- the trees with one more at place `at`
 abbrev pub put_in : ℕ → Label → Forest → Forest → Forest
@@ -31,16 +32,24 @@ put_below parent at n below (Grow first firsts others) =
 abbrev pub planted : ℕ → ℕ → Label → Forest → Forest → Forest
 planted parent at n below tree = if parent == 0 then Grow n below End else put_below parent at n below tree
 
+-- the trees without that of the node `id`: the node goes with all below it
+abbrev pub taken_out : ℕ → Forest → Forest
+taken_out id End = End
+taken_out id (Grow first firsts others) =
+    if first.id == id then taken_out id others else Grow first (taken_out id firsts) (taken_out id others)
+
 -- the page that an edit without a fault leaves
 abbrev pub edited : Contents → Edit → Contents
 edited page (Add parent at kind boxes) = record page {
   tree = planted parent at (record { id = page.next; kind = kind; boxes = boxes }) End page.tree;
   next = page.next + 1;
 }
+edited page (Remove id) = record page { tree = taken_out id page.tree }
 
 -- what it answers then
 abbrev pub answer_of : Contents → Edit → Done
 answer_of page (Add parent at kind boxes) = NodeAdded page.next
+answer_of page (Remove id) = EditDone
 
 -- the ancestors that a child of `parent` has, from that node on up
 abbrev pub ancestors_below : Contents → ℕ → List Label
@@ -65,6 +74,7 @@ faults_of page (Add parent at kind boxes) =
     ∷ (nat_lt 256 (depth_below (ancestors_below page parent)), fault.Deep)
     ∷ (nat_le 65536 (node_count page.tree) || nat_lt 1048576 page.next, fault.Full)
     ∷ []
+faults_of page (Remove id) = (not (has_id page id), fault.Absent) ∷ []
 
 -- the first fault of an edit on a page, where it has one
 abbrev pub first_fault : Contents → Edit → Option EditFault

@@ -25,6 +25,11 @@ abbrev pub tree_order : Forest → List Label
 tree_order End = []
 tree_order (Grow n below others) = n ∷ (tree_order below ++ tree_order others)
 
+-- the ids of the nodes in tree order
+abbrev pub ids_in : Forest → List ℕ
+ids_in End = []
+ids_in (Grow n below others) = n.id ∷ (ids_in below ++ ids_in others)
+
 -- how many nodes there are
 abbrev pub node_count : Forest → ℕ
 node_count End = 0

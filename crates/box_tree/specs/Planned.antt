@@ -1,16 +1,17 @@
 -- What a prepared edit holds, and an edit that was carried out.
-use Rattle.std.specs.Prelude.{◌≡◌, ℕ, ◌<◌, List, [], None}
-use Rattle.std.specs.Option.{option_map_or}
-use Rattle.std.specs.List.{insert}
+use Rattle.std.specs.Prelude.{◌≡◌, ℕ, ◌<◌, ◌==◌, List, [], Bool, not, None, Some, nat_lt}
+use Rattle.std.specs.Option.{option_map, option_map_or}
+use Rattle.std.specs.List.{insert, filter, list_any}
+use Rattle.std.specs.List.Sorted.{IsNonDecreasing}
 use Rattle.box_tree.specs.declared.kind.Kind.{Kind}
 use Rattle.box_tree.specs.declared.piece.Piece.{Piece}
 use Rattle.box_tree.specs.declared.node.Node.{Node}
 use Rattle.box_tree.specs.declared.edit.Edit.{Edit}
-use Rattle.box_tree.specs.declared.edit.Edit.TheVariants.{Add}
+use Rattle.box_tree.specs.declared.edit.Edit.TheVariants.{Add, Remove}
 use Rattle.box_tree.specs.declared.plan.Plan.{Plan}
-use Rattle.box_tree.specs.declared.plan.Plan.TheVariants.{AddNode}
-use Rattle.box_tree.specs.Forest.{End, node_count}
-use Rattle.box_tree.specs.Contents.{Contents, node_at, node_of}
+use Rattle.box_tree.specs.declared.plan.Plan.TheVariants.{AddNode, RemoveNodes}
+use Rattle.box_tree.specs.Forest.{End, node_count, occurrences}
+use Rattle.box_tree.specs.Contents.{Contents, node_at, node_of, tree_of}
 use Rattle.box_tree.specs.Edited.{IsInRange, first_fault, ancestors_below}
 use Rattle.box_tree.specs.PageState.{PageState}
 
@@ -28,9 +29,34 @@ pub record IsAddPlan (page : PageState) (parent at : ℕ) (kind : Kind) (boxes :
   pub siblings_are : siblings ≡ children_with page.contents parent at
   pub room : node_count page.contents.tree < page.room
 
+-- the ids without one of them
+abbrev pub ids_without : ℕ → List ℕ → List ℕ
+ids_without id ids = filter (λ other. not (other == id)) ids
+
+-- the children of `parent` without one of them
+abbrev pub children_without : Contents → ℕ → ℕ → List ℕ
+children_without page parent id = option_map_or (λ n. ids_without id n.children) (node_of page parent) []
+
+-- whether an id is one of these
+abbrev pub is_among : List ℕ → ℕ → Bool
+is_among ids id = list_any (λ other. other == id) ids
+
+-- these are the ids of a node and of all below it, in an order in which they can be searched
+pub record AreIdsOfTree (page : Contents) (id : ℕ) (ids : List ℕ) : Type 0 where
+  pub in_order : IsNonDecreasing ids
+  pub ids_are : (other : ℕ) → is_among ids other ≡ nat_lt 0 (occurrences (tree_of page id) other)
+
+-- the parent of a node, its children without the node, and the ids of the nodes that go, as a remove needs them
+pub record IsRemovePlan (page : Contents) (id parent : ℕ) (siblings gone : List ℕ) : Type 0 where
+  pub parent_is : option_map (λ n. n.parent) (node_of page id) ≡ Some parent
+  pub siblings_are : siblings ≡ children_without page parent id
+  pub gone_are : AreIdsOfTree page id gone
+
 -- the plan is one for the edit on the page
 abbrev pub IsPlanFor : Plan → Edit → PageState → Type 0
 IsPlanFor (AddNode node siblings) (Add parent at kind boxes) page = IsAddPlan page parent at kind boxes node siblings
+IsPlanFor (RemoveNodes parent siblings gone) (Remove id) page = IsRemovePlan page.contents id parent siblings gone
+IsPlanFor plan edit page = ⊥
 
 -- an edit that may be carried out, and its plan
 pub record IsPlanned (plan : Plan) (edit : Edit) (page : PageState) : Type 0 where

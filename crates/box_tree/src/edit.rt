@@ -17,6 +17,10 @@ pub enum Edit {
         kind: Kind,
         boxes: PieceList,
     },
+    /// The node goes out of the page with all below it; the root too may go.
+    Remove {
+        id: u32,
+    },
 }
 
 impl Edit {
@@ -26,6 +30,7 @@ impl Edit {
     {
         match self {
             Edit::Add { boxes, .. } => boxes.0.iter().all(|piece| piece.in_range()),
+            Edit::Remove { .. } => true,
         }
     }
 }
@@ -35,6 +40,7 @@ impl Edit {
 pub enum Done {
     /// The id of the node that was added.
     Node { id: u32 },
+    /// Any other edit.
     Done,
 }
 

@@ -1,5 +1,7 @@
 ghost use Rattle.std.specs.Prelude.{◌≡◌, ◌≤◌, length, IfOk};
 ghost use Rattle.std.specs.List.{insert};
+ghost use Rattle.std.specs.List.Sorted.{IsNonDecreasing};
+ghost use Rattle.box_tree.specs.Planned.{ids_without, is_among};
 
 use crate::kind::Kind;
 use crate::piece::Piece;
@@ -38,6 +40,26 @@ impl IdList {
         ids.push(id)?;
         ids.extend_from_slice(after)?;
         Ok(IdList(ids))
+    }
+
+    // The list without one id.
+    pub(crate) fn without(&self, alloc: Global, id: u32) -> Result<IdList, AllocError>
+        ensures { IfOk result (λ list. list ≡ ids_without id self.now) }
+    {
+        let ids = self
+            .0
+            .iter()
+            .copied()
+            .filter(|other| *other != id)
+            .collect(alloc)?;
+        Ok(IdList(ids))
+    }
+
+    // Whether an id is in the list, whose ids are in order.
+    pub(crate) fn contains(&self, id: u32) -> bool
+        ensures { IsNonDecreasing self.now → result ≡ is_among self.now id }
+    {
+        self.0.binary_search(&id).is_ok()
     }
 }
 

@@ -15,6 +15,7 @@ use std::marker::Model;
 use std::snapshot::Snapshot;
 
 mod adds;
+mod removes;
 
 /// A page: a tree of nodes or none, seen through a viewport.
 #[derive(Drop)]
@@ -130,6 +131,7 @@ impl Page {
                 kind,
                 boxes,
             } => self.plan_add(*parent, *at, *kind, boxes)?,
+            Edit::Remove { id } => self.plan_remove(*id)?,
         };
         Ok(Prepared {
             plan,
@@ -155,6 +157,11 @@ impl Page {
         } = prepared;
         let done = match plan {
             Plan::AddNode { node, siblings } => self.add(node, siblings, &edit),
+            Plan::RemoveNodes {
+                parent,
+                siblings,
+                gone,
+            } => self.remove(parent, siblings, gone, &edit),
         };
         Undo {
             done,

@@ -8,7 +8,16 @@ use std::snapshot::Snapshot;
 #[derive(Drop)]
 pub(crate) enum Plan {
     /// The new node, and the children that its parent then has.
-    AddNode { node: Node, siblings: IdList },
+    AddNode {
+        node: Node,
+        siblings: IdList,
+    },
+    /// The parent of the node that goes, the children that the parent then has, and the ids of all nodes that go.
+    RemoveNodes {
+        parent: u32,
+        siblings: IdList,
+        gone: IdList,
+    },
 }
 
 /// An edit that was tested, with all the memory that carrying it out takes.

@@ -188,7 +188,7 @@ fn siblings_with(
 }
 
 // The node with this id gets other children.
-fn give_children(nodes: &mut Vec<Node>, id: u32, children: IdList)
+pub(super) fn give_children(nodes: &mut Vec<Node>, id: u32, children: IdList)
     requires rising { IsRisingFrom 0 nodes.old.items }
     requires there { IsSome (node_with nodes.old.items id) }
     ensures given { GivesChildren nodes.old.items nodes.new.items id children }

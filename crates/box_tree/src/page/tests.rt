@@ -135,3 +135,96 @@ fn faults_have_their_names(rt: HostRuntime) {
         assert_eq!(rt; fault.name(), name);
     }
 }
+
+// An edit of a table: an add of a block with a box, or a remove.
+#[derive(Clone, Copy, Debug)]
+enum Step {
+    Add(u32, u32),
+    Remove(u32),
+}
+
+// The answer of the page to an edit of a table.
+fn answer_to(
+    rt: &impl Abort,
+    alloc: Global,
+    page: &mut Page,
+    step: Step,
+) -> Result<Result<u32, Option<u8>>, Fail> {
+    let edit = match step {
+        Step::Add(parent, at) => block(alloc, parent, at, [(0, 0)].as_slice())?,
+        Step::Remove(id) => Edit::Remove { id },
+    };
+    Ok(answer(rt, page, &edit))
+}
+
+#[test]
+fn a_remove_takes_the_node_and_all_below_it(rt: HostRuntime) -> Result<(), Fail> {
+    let alloc = rt.alloc();
+    let mut page = Page::new(alloc, 81_920, 46_080);
+    for (step, expected, count) in [
+        (Step::Remove(1), Err(Some(4)), 0),
+        (Step::Add(0, 0), Ok(1), 1),
+        (Step::Add(1, 0), Ok(2), 2),
+        (Step::Add(2, 0), Ok(3), 3),
+        (Step::Add(2, 1), Ok(4), 4),
+        (Step::Add(4, 0), Ok(5), 5),
+        (Step::Add(1, 1), Ok(6), 6),
+        (Step::Add(1, 0), Ok(7), 7),
+        (Step::Remove(9999), Err(Some(4)), 7),
+        (Step::Remove(0), Err(Some(4)), 7),
+        (Step::Remove(2), Ok(0), 3),
+        (Step::Remove(2), Err(Some(4)), 3),
+        (Step::Remove(5), Err(Some(4)), 3),
+        (Step::Add(4, 0), Err(Some(4)), 3),
+        (Step::Add(6, 0), Ok(8), 4),
+        (Step::Remove(8), Ok(0), 3),
+    ] {
+        assert_eq!(rt;
+            answer_to(&rt, alloc, &mut page, step)?,
+            expected,
+            "{step:?}"
+        );
+        assert_eq!(rt; page.count(), count, "after {step:?}");
+    }
+    for (id, is_there) in [
+        (1, true),
+        (2, false),
+        (3, false),
+        (4, false),
+        (5, false),
+        (6, true),
+        (7, true),
+        (8, false),
+    ] {
+        assert_eq!(rt; page.has(id), is_there, "{id}");
+    }
+    assert!(rt; page.has(1));
+    let children = children_with::<Brand>(alloc, &page, 1, Blank::new(1))?;
+    assert_eq!(rt; children.as_slice(), [7, 6].as_slice());
+    Ok(())
+}
+
+#[test]
+fn no_id_is_given_again_after_a_remove(rt: HostRuntime) -> Result<(), Fail> {
+    let alloc = rt.alloc();
+    let mut page = Page::new(alloc, 81_920, 46_080);
+    for (step, expected, root) in [
+        (Step::Add(0, 0), Ok(1), Some(1)),
+        (Step::Add(1, 0), Ok(2), Some(1)),
+        (Step::Remove(2), Ok(0), Some(1)),
+        (Step::Add(1, 0), Ok(3), Some(1)),
+        (Step::Remove(1), Ok(0), None),
+        (Step::Add(3, 0), Err(Some(4)), None),
+        (Step::Add(0, 0), Ok(4), Some(4)),
+        (Step::Remove(4), Ok(0), None),
+        (Step::Add(0, 0), Ok(5), Some(5)),
+    ] {
+        assert_eq!(rt;
+            answer_to(&rt, alloc, &mut page, step)?,
+            expected,
+            "{step:?}"
+        );
+        assert_eq!(rt; page.root(), root, "after {step:?}");
+    }
+    Ok(())
+}
