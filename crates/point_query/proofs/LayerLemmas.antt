@@ -9,12 +9,12 @@ use Rattle.std.proofs.lemmas.List.{append-nil, map-append, reverse-append}
 use Rattle.std.proofs.lemmas.List.Elements.{filter-append}
 use Rattle.box_tree.specs.declared.piece.Piece.{Piece}
 use Rattle.box_tree.specs.Forest.{Label, Forest, End, Grow, roots_of, tree_order, occurrences, Placed, placed_in}
-use Rattle.box_tree.specs.Contents.{Contents, placed_of, has_box, IsValid}
+use Rattle.box_tree.specs.Contents.{Contents, placed_of, has_box, IsValid, tree_of}
 use Rattle.box_tree.proofs.ForestLemmas.{placed_in-head}
 use Rattle.box_tree.proofs.PlacedLemmas.{AreAtPlaces, page-at_places}
 use Rattle.point_query.specs.declared.elements.Local.{Local}
 use Rattle.point_query.specs.Elements.{space, local_point, box_holds, admits, layer, each_once, then_root, is_inside, elements_with, elements_from_point}
-use Rattle.point_query.specs.Walk.{fine_point, from_corner, own_at, admitted_in, tree_of, ancestor_count}
+use Rattle.point_query.specs.Walk.{fine_point, from_corner, own_at, admitted_in, ancestor_count}
 
 -- a filter of a list from its end
 filter-reverse : {A : Type 0} (p : A → Bool) (xs : List A) → filter p (reverse xs) ≡ reverse (filter p xs)

@@ -5,13 +5,13 @@ use Rattle.std.specs.Option.{option_map_or}
 use Rattle.box_tree.specs.declared.piece.Piece.{Piece}
 use Rattle.box_tree.specs.declared.node.Node.{Node}
 use Rattle.box_tree.specs.Forest.{Label, Forest, End, Grow, roots_of, Placed}
-use Rattle.box_tree.specs.Contents.{Contents, node_of, has_id, IsValid}
+use Rattle.box_tree.specs.Contents.{Contents, node_of, has_id, IsValid, tree_of}
 use Rattle.box_tree.proofs.PlacedLemmas.{trees_from, trees_from-all, depth-placed_in, IsSeenAt, seen_at, IsChildAt, child_at}
 use Rattle.box_tree.proofs.PlanLemmas.{id-placed_in}
 use Rattle.point_query.specs.declared.elements.Local.{Local}
 use Rattle.std.specs.Prelude.{if◌then◌else◌}
 use Rattle.point_query.specs.Elements.{box_holds}
-use Rattle.point_query.specs.Walk.{fine_point, from_corner, own_at, admitted_in, below_of, tree_of, ancestor_count, IsNear}
+use Rattle.point_query.specs.Walk.{fine_point, from_corner, own_at, admitted_in, below_of, ancestor_count, IsNear}
 
 -- what is admitted of the first tree comes before what is admitted of the others
 pub admitted_in-cons : (at : Local) (n : Label) (below others : Forest) → admitted_in at (Grow n below others) ≡ admitted_in at (Grow n below End) ++ admitted_in at others

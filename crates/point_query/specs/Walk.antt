@@ -28,10 +28,6 @@ admitted_in at (Grow n below others) = own_at at n ++ (admitted_in (from_corner 
 abbrev pub below_of : Contents → ℕ → Forest
 below_of page id = option_map_or (λ p. p.below) (placed_of page id) End
 
--- the tree of a node
-abbrev pub tree_of : Contents → ℕ → Forest
-tree_of page id = option_map_or (λ p. Grow p.label p.below End) (placed_of page id) End
-
 -- how many ancestors a node has
 abbrev pub ancestor_count : Contents → ℕ → ℕ
 ancestor_count page id = option_map_or (λ p. length p.above) (placed_of page id) 0

@@ -1,7 +1,7 @@
 ghost use Rattle.std.specs.Prelude.{◌≡◌, ℕ, ◌+◌, ◌++◌, ◌∷◌, [], ◌&&◌, ◌+ℤ◌, ◌*ℤ◌, pos, int_le, if◌then◌else◌, IsTrue, IfOk};
-ghost use Rattle.box_tree.specs.Contents.{IsWithin, IsValid, has_id};
+ghost use Rattle.box_tree.specs.Contents.{IsWithin, IsValid, has_id, tree_of};
 ghost use Rattle.point_query.specs.Elements.{elements_from_point, is_inside, span_holds, box_holds, then_root, ends_with};
-ghost use Rattle.point_query.specs.Walk.{fine_point, from_corner, admitted_in, tree_of, ancestor_count, IsNear};
+ghost use Rattle.point_query.specs.Walk.{fine_point, from_corner, admitted_in, ancestor_count, IsNear};
 
 use box_tree::{Page, Piece, Viewport};
 use fractions::{Ledger, Steps};

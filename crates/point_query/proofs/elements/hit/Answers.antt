@@ -4,9 +4,9 @@ use Rattle.std.proofs.lemmas.Int.{ints}
 use mir.Syntax.{w64}
 use mir.Val.{to_z, of_z}
 use Rattle.box_tree.specs.declared.viewport.Viewport.{Viewport}
-use Rattle.box_tree.specs.Contents.{Contents}
+use Rattle.box_tree.specs.Contents.{Contents, tree_of}
 use Rattle.point_query.specs.Elements.{then_root, is_inside, elements_from_point}
-use Rattle.point_query.specs.Walk.{admitted_in, tree_of}
+use Rattle.point_query.specs.Walk.{admitted_in}
 use Rattle.point_query.proofs.LayerLemmas.{IsLocalAt, root_of, ancestor_count-root, answered}
 use Rattle.point_query.proofs.elements.hit.Goals as goal
 
