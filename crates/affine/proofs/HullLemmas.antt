@@ -91,10 +91,6 @@ module _ (a c e l r t b : ℤ) where
   module _ (x y w : ℤ) (positive : pos 0 <ℤ w) (from_l : (l *ℤ w) ≤ℤ x) (to_r : x ≤ℤ (r *ℤ w)) (from_t : (t *ℤ w) ≤ℤ y) (to_b : y ≤ℤ (b *ℤ w)) where
     least_corner-below : (least_corner *ℤ w) ≤ℤ row a c e x y w
     least_corner-below =
-        let lt' = row a c e l t (pos 1) in
-        let rt = row a c e r t (pos 1) in
-        let lb = row a c e l b (pos 1) in
-        let rb = row a c e r b (pos 1) in
         let least = least-below (row a c e l t (pos 1)) (row a c e r t (pos 1)) (row a c e l b (pos 1)) (row a c e r b (pos 1)) in
         let under : (u v : ℤ) → least_corner ≤ℤ row a c e u v (pos 1) → (a *ℤ u *ℤ w) ≤ℤ (a *ℤ x) → (c *ℤ v *ℤ w) ≤ℤ (c *ℤ y) → (least_corner *ℤ w) ≤ℤ row a c e x y w =
         λ u v h p q. chain (least_corner *ℤ w) (row a c e u v (pos 1) *ℤ w) (row a c e x y w)

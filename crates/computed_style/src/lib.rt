@@ -6,11 +6,17 @@
 #![tactic(auto)]
 
 mod function;
+mod inherited;
+pub mod laws;
 mod memory;
 mod pointer_events;
 mod style;
 
 pub use function::{Function, Functions};
+pub use inherited::{Inherited, compute};
 pub use memory::OutOfMemory;
-pub use pointer_events::PointerEvents;
+pub use pointer_events::{PointerEvents, admits_box, admits_shape};
 pub use style::{Ends, Overflow, Position, Rule, Style};
+
+#[cfg(test)]
+mod tests;

@@ -6,7 +6,7 @@ ghost use Rattle.point_query.specs.Elements.{elements_from_point};
 use crate::reply::OutOfMemory;
 use box_tree::{Done, Edit, EditFault};
 use fractions::{Ledger, Steps};
-use point_query::Engine;
+use tree_edits::Engine;
 use std::alloc::Global;
 
 /// What keeps the page, and is asked for each edit and each query.

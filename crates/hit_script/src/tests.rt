@@ -7,7 +7,7 @@ use crate::{
 };
 use box_tree::EditFault;
 use fractions::{Blank, Brand, Ledger, Steps};
-use point_query::Engine;
+use tree_edits::Engine;
 use std::alloc::{AllocError, Global};
 use std::io;
 use std::process::Abort;

@@ -8,7 +8,7 @@ ghost use Rattle.std.specs.Prelude.{◌≡◌, ◌<◌};
 
 use fractions::{Blank, Brand, Ledger, Steps};
 use hit_script::{Status, StdSink, StdSource, run};
-use point_query::Engine;
+use tree_edits::Engine;
 use std::process::ExitCode;
 use std::{env, io};
 

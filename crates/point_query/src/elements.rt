@@ -3,10 +3,10 @@ ghost use Rattle.box_tree.specs.Contents.{IsWithin, IsValid, has_id};
 ghost use Rattle.point_query.specs.Elements.{elements_from_point, is_inside, span_holds, box_holds, then_root, ends_with};
 ghost use Rattle.point_query.specs.Walk.{fine_point, from_corner, admitted_in, tree_of, ancestor_count, IsNear};
 
-use crate::engine::{Engine, OutOfMemory};
 use box_tree::{Page, Piece, Viewport};
 use fractions::{Ledger, Steps};
 use std::alloc::Global;
+use tree_edits::{Engine, OutOfMemory};
 
 // A point in units, in the space of a node.
 #[derive(Clone, Copy)]

@@ -7,7 +7,6 @@ use Rattle.affine.proofs.hulls.hull.Goals as goal
 
 pub returns-clause-value : goal.returns-clause-value
 returns-clause-value c =
-    let m = c.args.m.now in
     let bound = c.parts-parts.ensures.map.bound in
     let a = from_bits c.args.m.now.a (narrow c.args.m.now.a (omega (arith, bound.a))) in
     let b = from_bits c.args.m.now.b (narrow c.args.m.now.b (omega (arith, bound.b))) in

@@ -7,7 +7,6 @@ use Rattle.affine.proofs.points.preimage_x.Goals as goal
 
 pub returns-clause-value : goal.returns-clause-value
 returns-clause-value c =
-    let p = c.args.p.now in
     let q = from_bits c.args.p.now.q (narrow c.args.p.now.q (omega arith)) in
     let e = from_bits c.args.p.now.e (narrow c.args.p.now.e (omega arith)) in
     let f = from_bits c.args.p.now.f (narrow c.args.p.now.f (omega arith)) in

@@ -79,3 +79,6 @@ impl Engine {
         &self.page
     }
 }
+
+#[cfg(test)]
+mod tests;

@@ -1,0 +1,5 @@
+pub mod Widths
+pub mod FillLemmas
+pub mod OutlineLemmas
+pub mod ExtentLemmas
+pub mod StrokeLemmas

@@ -1,0 +1,37 @@
+-- The bounds of points: the least closed rectangle that holds them.
+use Rattle.std.specs.Prelude.{ℤ, ◌≤ℤ◌, Option, None, Some, List, [], ◌∷◌, fold}
+use Rattle.std.specs.Int.{int_min, int_max}
+use Rattle.poly_shapes.specs.declared.point.Point.{Point}
+use Rattle.poly_shapes.specs.declared.point.Bounds.{Bounds}
+
+-- the rectangle of one point
+abbrev pub around : Point → Bounds
+around p = record { l = p.x; t = p.y; r = p.x; b = p.y }
+
+-- the least rectangle that holds this one and the point
+abbrev pub widened : Bounds → Point → Bounds
+widened bounds p = record {
+  l = int_min bounds.l p.x;
+  t = int_min bounds.t p.y;
+  r = int_max bounds.r p.x;
+  b = int_max bounds.b p.y;
+}
+
+-- the bounds of points, and none without a point
+abbrev pub bounds_of : List Point → Option Bounds
+bounds_of [] = None
+bounds_of (p ∷ points) = Some (fold widened (around p) points)
+
+-- the rectangle holds the point, on its edges too
+pub record Holds (bounds : Bounds) (x y : ℤ) : Type 0 where
+  pub left : bounds.l ≤ℤ x
+  pub right : x ≤ℤ bounds.r
+  pub top : bounds.t ≤ℤ y
+  pub bottom : y ≤ℤ bounds.b
+
+-- the one rectangle lies in the other
+pub record LiesIn (inner outer : Bounds) : Type 0 where
+  pub left : outer.l ≤ℤ inner.l
+  pub right : inner.r ≤ℤ outer.r
+  pub top : outer.t ≤ℤ inner.t
+  pub bottom : inner.b ≤ℤ outer.b

@@ -1,0 +1,5 @@
+pub mod Segments
+pub mod Outline
+pub mod Extent
+pub mod Fill
+pub mod Stroke

@@ -1,0 +1,19 @@
+// Shapes with straight sides: which points the fill and the stroke of polygons and polylines hold.
+//
+// The answers are exact, in whole numbers. The fill is that of SVG 2 under both rules, by the winding and the crossings
+// of all edges; the stroke is that of SVG 2 under the three caps, with round joins throughout. Only a new shape takes
+// memory. The crate stands on std alone.
+#![tactic(auto)]
+
+mod bounds;
+mod fill;
+mod memory;
+mod outline;
+mod point;
+mod poly;
+mod segment;
+mod stroke;
+
+pub use memory::OutOfMemory;
+pub use point::{Bounds, Cap, FillRule, Point, Sub};
+pub use poly::Poly;

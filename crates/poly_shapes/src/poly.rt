@@ -1,0 +1,137 @@
+ghost use Rattle.std.specs.Prelude.{◌≡◌, ◌↔◌, ◌^◌, ◌≤◌, unsigned_abs, length, [], IsTrue, IfOk, IfSome, IsNone, pos, ◌≤ℤ◌};
+ghost use Rattle.std.specs.List.{All};
+ghost use Rattle.poly_shapes.specs.Segments.{IsPlaced};
+ghost use Rattle.poly_shapes.specs.Outline.{Outline, AreTiled, IsMeasured, edges};
+ghost use Rattle.poly_shapes.specs.Extent.{bounds_of};
+ghost use Rattle.poly_shapes.specs.Fill.{winding, crossings, Fills};
+ghost use Rattle.poly_shapes.specs.Stroke.{strokes};
+
+use crate::bounds::bounds_of;
+use crate::fill::{crossings_of, winding_of};
+use crate::memory::OutOfMemory;
+use crate::point::{Bounds, Cap, FillRule, Point, Sub};
+use crate::stroke::{Pen, strokes_of};
+use std::alloc::Global;
+use std::marker::Model;
+
+/// A shape with straight sides: its points and its subpaths, which contracts see as one outline.
+#[derive(Debug, Drop)]
+pub struct Poly {
+    points: Vec<Point>,
+    subs: Vec<Sub>,
+    bounds: Option<Bounds>,
+}
+
+impl Model for Poly {
+    ghost use Rattle.std.specs.Prelude.{◌≡◌};
+    ghost use Rattle.poly_shapes.specs.Outline.{Outline, IsMeasured};
+    ghost use Rattle.poly_shapes.specs.Extent.{bounds_of};
+
+    ghost Value = { Outline };
+
+    ghost view = { λ poly. record { points = poly.points.items; subs = poly.subs.items } };
+
+    ghost invariant = { λ poly. IsMeasured (record { points = poly.points.items; subs = poly.subs.items }) × (poly.bounds ≡ bounds_of poly.points.items) };
+}
+
+impl Poly {
+    /// A shape with just these points, at most 524,288 of them with coordinates within 2^26, and these subpaths, which
+    /// tile the points in order.
+    pub fn new(alloc: Global, points: &[Point], subs: &[Sub]) -> Result<Poly, OutOfMemory>
+        requires placed { All IsPlaced points.now }
+        requires few { length points.now ≤ 2 ^ 19 }
+        requires tiled { AreTiled 0 (length points.now) subs.now }
+        ensures { IfOk result (λ poly. poly ≡ record { points = points.now; subs = subs.now }) }
+    {
+        let bounds = bounds_of(points);
+        let points = Vec::from_slice(alloc, points)?;
+        let subs = Vec::from_slice(alloc, subs)?;
+        Ok(Poly {
+            points,
+            subs,
+            bounds,
+        })
+    }
+
+    /// Its points, in order.
+    pub fn points(&self) -> &[Point]
+        ensures points { result.now ≡ self.now.points }
+        ensures measured { IsMeasured self.now }
+    {
+        &self.points
+    }
+
+    /// Its subpaths, in order.
+    pub fn subs(&self) -> &[Sub]
+        ensures { result.now ≡ self.now.subs }
+    {
+        &self.subs
+    }
+
+    /// The least closed rectangle that holds its points, in their units; None exactly where there is no point.
+    pub fn bounds(&self) -> Option<Bounds>
+        ensures value { result ≡ bounds_of self.now.points }
+        ensures absent { IsNone result ↔ (self.now.points ≡ []) }
+    {
+        self.bounds
+    }
+
+    /// How often the outline, each subpath closed, goes round a point within 2^28: downwards crossings of the ray to
+    /// the right less upwards ones. SVG 2, "The 'fill-rule' property".
+    pub fn winding(&self, x: i128, y: i128) -> i64
+        requires x { unsigned_abs x ≤ 2 ^ 28 }
+        requires y { unsigned_abs y ≤ 2 ^ 28 }
+        ensures value { result ≡ winding (edges self.now) x y }
+        ensures size { unsigned_abs result ≤ length self.now.points }
+    {
+        winding_of(&self.points, &self.subs, spot(x, y))
+    }
+
+    /// How many edges of the outline, each subpath closed, the ray to the right from a point within 2^28 crosses. SVG 2,
+    /// "The 'fill-rule' property".
+    pub fn crossings(&self, x: i128, y: i128) -> u32
+        requires x { unsigned_abs x ≤ 2 ^ 28 }
+        requires y { unsigned_abs y ≤ 2 ^ 28 }
+        ensures value { result ≡ crossings (edges self.now) x y }
+        ensures size { result ≤ length self.now.points }
+    {
+        crossings_of(&self.points, &self.subs, spot(x, y))
+    }
+
+    /// Whether the fill by a rule holds a point within 2^28. SVG 2, "The 'fill-rule' property".
+    pub fn fills(&self, rule: FillRule, x: i128, y: i128) -> bool
+        requires x { unsigned_abs x ≤ 2 ^ 28 }
+        requires y { unsigned_abs y ≤ 2 ^ 28 }
+        ensures { IsTrue result ↔ Fills rule (edges self.now) x y }
+    {
+        match rule {
+            FillRule::NonZero => self.winding(x, y) != 0,
+            FillRule::EvenOdd => self.crossings(x, y) % 2 == 1,
+        }
+    }
+
+    /// Whether the stroke of a width from 0 to 2^26, in the points' units, holds a point within 2^28: some segment's body,
+    /// some join or some end does. Joins are round. SVG 2, "Stroke properties".
+    pub fn strokes(&self, width: i64, cap: Cap, x: i128, y: i128) -> bool
+        requires width_above { pos 0 ≤ℤ width }
+        requires width_below { width ≤ℤ pos (2 ^ 26) }
+        requires x { unsigned_abs x ≤ 2 ^ 28 }
+        requires y { unsigned_abs y ≤ 2 ^ 28 }
+        ensures { result ≡ strokes self.now (unsigned_abs width) cap x y }
+    {
+        let width = width.unsigned_abs();
+        width > 0 && strokes_of(&self.points, &self.subs, Pen { width, cap }, spot(x, y))
+    }
+}
+
+/// The point with these coordinates.
+fn spot(x: i128, y: i128) -> Point
+    requires x { unsigned_abs x ≤ 2 ^ 28 }
+    requires y { unsigned_abs y ≤ 2 ^ 28 }
+    ensures { result ≡ record { x = x; y = y } }
+{
+    Point {
+        x: x as i64,
+        y: y as i64,
+    }
+}

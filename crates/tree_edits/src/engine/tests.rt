@@ -1,0 +1,52 @@
+ghost use Rattle.std.specs.Prelude.{◌≡◌, ◌<◌};
+
+use super::*;
+use box_tree::{Kind, Piece, PieceList};
+use fractions::{Blank, Brand};
+use std::process::Abort;
+use std::test::Fail;
+
+// An add of a block with one box below a parent that has no children yet.
+fn first_child(alloc: Global, parent: u32) -> Result<Edit, Fail> {
+    let mut boxes = Vec::new(alloc);
+    boxes.push(Piece {
+        line: 0,
+        l: 0,
+        t: 0,
+        w: 100,
+        h: 100,
+    })?;
+    Ok(Edit::Add {
+        parent,
+        at: 0,
+        kind: Kind::Block,
+        boxes: PieceList(boxes),
+    })
+}
+
+fn edit_in_turn<L: Ledger>(rt: &impl Abort, alloc: Global, blank: Blank) -> Result<(), Fail>
+    requires name { blank.name ≡ L.name }
+    requires parts { blank.parts ≡ L.parts }
+    requires some_parts { 0 < blank.parts }
+{
+    let mut steps = Steps::<L>::new(blank);
+    let mut engine = Engine::new(alloc, 640, 480)?;
+    for (parent, expected) in [
+        (7, Err(EditFault::Absent)),
+        (0, Ok(Done::Node { id: 1 })),
+        (0, Err(EditFault::Root)),
+        (1, Ok(Done::Node { id: 2 })),
+    ] {
+        let edit = first_child(alloc, parent)?;
+        assert!(rt; edit.in_range());
+        assert_eq!(rt; engine.edit(&edit, &mut steps), expected, "below {parent}");
+    }
+    assert_eq!(rt; engine.page().count(), 2);
+    assert_eq!(rt; engine.page().viewport().h, 480);
+    Ok(())
+}
+
+#[test]
+fn edits_are_applied_or_refused_in_turn(rt: HostRuntime) -> Result<(), Fail> {
+    edit_in_turn::<Brand>(&rt, rt.alloc(), Blank::new(1))
+}
