@@ -1,7 +1,7 @@
 -- How a run ends, by how far it had come.
 use Rattle.std.proofs.Common.{◌≡◌, ◌≢◌, ◌<◌, ◌≤◌, ◌+◌, ◌^◌, ℕ, List, [], ◌++◌, length, take, drop, Option, Some, None, Result, Ok, Err, inl, inr, refl, ap, sym, ◌∙◌, append_assoc, arith}
 use Rattle.std.specs.Prelude.{IfSome, IsSome, OnOk, OnErr, ◌⊎◌, ◌-◌}
-use Rattle.std.proofs.lemmas.Option.{none-some, same_Some}
+use Rattle.std.proofs.lemmas.Option.{same_Some}
 use Rattle.std.proofs.lemmas.Bool.{false≢true}
 use Rattle.std.proofs.lemmas.List.{append-nil, take-append-drop, append_cancel_right, length-drop}
 use Rattle.box_tree.specs.Contents.{Contents}
@@ -14,7 +14,7 @@ use Rattle.hit_script.specs.declared.outcome.Status.{Status}
 use Rattle.hit_script.specs.declared.outcome.Status.TheVariants as status
 use Rattle.hit_script.specs.declared.sinks.SinkFault.{SinkFault}
 use Rattle.hit_script.specs.declared.sinks.SinkFault.TheVariants as sink_fault
-use Rattle.hit_script.proofs.Progress.{Stands, takes_both, takes_nothing, all_is_front, front_behind, left_more, read_rest, read_within}
+use Rattle.hit_script.proofs.Progress.{Stands, takes_both, all_is_front, front_behind, left_more, read_rest, read_within}
 use Rattle.hit_script.proofs.Runs.{replies_from-append, all_lines_more}
 
 -- The replies to a script, by those to the lines that are whole so far.

@@ -1,6 +1,6 @@
 -- Numbers within the limits fit 64 bits.
 use Rattle.std.proofs.Common.{◌≡◌, ◌^◌, ◌<◌, ℤ, pos, negsuc, arith, w64}
-use Rattle.std.specs.Prelude.{unsigned_abs, ◌≤ℤ◌, neg_ℤ}
+use Rattle.std.specs.Prelude.{unsigned_abs}
 use Rattle.std.proofs.lemmas.Int.{to_z-of_z, fits_signed_from_abs, ints}
 use Rattle.box_tree.specs.Contents.{IsWithin}
 use mir.Val.{to_z, of_z}

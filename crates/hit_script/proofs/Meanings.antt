@@ -1,7 +1,6 @@
 -- What a line means, case by case.
-use Rattle.std.proofs.Common.{◌≡◌, ◌≢◌, ℕ, ◌^◌, ◌<◌, ◌≤◌, Bool, true, false, cond, not, ◌&&◌, List, [], length, Option, Some, None, Result, Ok, Err, inl, inr, refl, ap, arith}
+use Rattle.std.proofs.Common.{◌≡◌, ℕ, ◌^◌, ◌<◌, ◌≤◌, true, false, cond, not, ◌&&◌, List, [], length, Option, None, Err, inl, inr, refl}
 use Rattle.std.specs.Prelude.{nat_lt}
-use Rattle.std.specs.Option.{ok_or}
 use Rattle.std.specs.Str.{IsUtf8, is_utf8}
 use Rattle.std.proofs.lemmas.Str.{IsUtf8-from_is_utf8, is_utf8-from_IsUtf8}
 use Rattle.std.proofs.lemmas.Bool.{lt-ltb, le-ltb, and_parts, and_cases, not-true, not-false, both_ways, cases_Bool}
@@ -10,7 +9,7 @@ use Rattle.serde_json.specs.Read.{read}
 use Rattle.box_tree.specs.Contents.{Contents}
 use Rattle.hit_script.specs.Lines.{is_blank}
 use Rattle.hit_script.specs.Script.{answer_to, answer_to_command}
-use Rattle.hit_script.specs.Command.{is_long, json_reading, command_or_fault, command_reading, meaning}
+use Rattle.hit_script.specs.Command.{is_long, json_reading, command_or_fault, meaning}
 use Rattle.hit_script.specs.declared.command.LineFault.TheVariants as fault
 
 -- bytes that are UTF-8 have the reading of their text

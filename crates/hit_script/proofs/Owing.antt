@@ -1,11 +1,11 @@
 -- What is owed to the bytes of a script that are still to come, and how a byte changes it.
-use Rattle.std.proofs.Common.{◌≡◌, ◌≢◌, ℕ, Bool, true, false, cond, eqb, List, [], ◌∷◌, ◌++◌, Option, Some, refl, ap, sym, ◌∙◌, inl, inr, append_assoc}
+use Rattle.std.proofs.Common.{◌≡◌, ℕ, false, cond, eqb, List, [], ◌∷◌, ◌++◌, Option, Some, refl, ap, sym, ◌∙◌, inl, inr, append_assoc}
 use Rattle.std.proofs.lemmas.Bool.{cases_Bool, eqb-true}
 use Rattle.std.proofs.lemmas.List.{append-nil}
 use Rattle.box_tree.specs.Contents.{Contents}
 use Rattle.hit_script.specs.Lines.{lines, has_newline, whole_lines, unfinished}
 use Rattle.hit_script.specs.Script.{answer_to, replies_from, page_behind}
-use Rattle.hit_script.proofs.LineLaws.{lines_next, whole_lines_next, whole_lines_none, unfinished_next, unfinished_none, no_newline, no_lines, newline_not_pushed}
+use Rattle.hit_script.proofs.LineLaws.{lines_next, whole_lines_next, whole_lines_none, unfinished_next, no_newline, no_lines, newline_not_pushed}
 
 -- From the page as it is, the replies to the whole lines of some bytes complete these replies and lead to this page.
 pub record Owes (page : Option Contents) (out bytes replies : List ℕ) (behind : Contents) : Type 0 where

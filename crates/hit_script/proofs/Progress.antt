@@ -1,15 +1,15 @@
 -- How far a run has come after some bytes of its script, where the ends and the desk tell.
-use Rattle.std.proofs.Common.{◌≡◌, ◌<◌, ◌≤◌, ◌+◌, ◌-◌, ℕ, min, List, [], ◌∷◌, ◌++◌, length, take, drop, Option, Some, None, option_map, inl, inr, refl, ap, sym, ◌∙◌, append_assoc, arith}
+use Rattle.std.proofs.Common.{◌≡◌, ◌≤◌, ◌+◌, ◌-◌, ℕ, min, List, [], ◌++◌, length, take, drop, Option, Some, None, option_map, inl, inr, refl, ap, sym, ◌∙◌, append_assoc, arith}
 use Rattle.std.proofs.lemmas.Option.{none-some, same_Some}
-use Rattle.std.proofs.lemmas.List.{append-nil, take-append-drop, take_at, drop_at, drop-drop, length-append, length-drop, length-take, take_all, take_min, take-append-le, append_cancel_left}
+use Rattle.std.proofs.lemmas.List.{append-nil, take_at, drop_at, drop-drop, length-append, length-drop, take_min, take-append-le}
 use Rattle.std.proofs.Math.Nat.{min-le_right}
 use Rattle.std.proofs.Math.Seq.{take-add, take-append-add}
 use Rattle.box_tree.specs.Contents.{Contents}
 use Rattle.hit_script.specs.Ends.{Read, Rose, TakesAll, TakesFront}
-use Rattle.hit_script.specs.Lines.{lines, has_newline, whole_lines, unfinished}
+use Rattle.hit_script.specs.Lines.{lines, whole_lines, unfinished}
 use Rattle.hit_script.specs.Script.{replies_from, page_behind}
-use Rattle.hit_script.proofs.LineLaws.{whole_lines_more, unfinished_more, no_lines, nothing_unfinished, nothing_whole}
-use Rattle.hit_script.proofs.Runs.{replies_from-append, page_behind-append, lines_more, all_lines_more}
+use Rattle.hit_script.proofs.LineLaws.{unfinished_more, no_lines, nothing_unfinished, nothing_whole}
+use Rattle.hit_script.proofs.Runs.{replies_from-append, page_behind-append, lines_more}
 
 -- What a sink takes, one part after another.
 

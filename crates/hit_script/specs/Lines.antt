@@ -1,6 +1,6 @@
 -- The lines of a script.
 use Rattle.std.specs.List.{list_all}
-use Rattle.std.specs.Prelude.{ℕ, List, [], ◌∷◌, ◌++◌, Bool, true, false, ◌||◌, ◌&&◌, ◌==◌, if◌then◌else◌}
+use Rattle.std.specs.Prelude.{ℕ, List, [], ◌∷◌, Bool, false, ◌||◌, ◌==◌, if◌then◌else◌}
 
 -- a byte put before the first of some lines, where there is none as a line of its own
 abbrev pub onto_first : ℕ → List (List ℕ) → List (List ℕ)

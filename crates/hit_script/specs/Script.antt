@@ -1,13 +1,13 @@
 -- The replies to a script: those to its lines, one after another, from the page as it then stands.
-use Rattle.std.specs.Prelude.{ℕ, ℤ, pos, List, [], ◌∷◌, ◌++◌, if◌then◌else◌, Option, Some, None, Result, Ok, Err}
+use Rattle.std.specs.Prelude.{ℕ, pos, List, [], ◌∷◌, ◌++◌, if◌then◌else◌, Option, Some, None, Result, Ok, Err}
 use Rattle.box_tree.specs.Contents.{Contents, empty_page}
-use Rattle.box_tree.specs.Edited.{edited, answer_of, first_fault, fault_number, fault_name}
+use Rattle.box_tree.specs.Edited.{edited, answer_of, first_fault}
 use Rattle.box_tree.specs.declared.edit.Done.{Done}
 use Rattle.box_tree.specs.declared.edit.Done.TheVariants as done
 use Rattle.box_tree.specs.declared.edit.Edit.{Edit}
 use Rattle.box_tree.specs.declared.edit.EditFault.{EditFault}
 use Rattle.point_query.specs.Elements.{elements_from_point}
-use Rattle.hit_script.specs.Lines.{lines, whole_lines, is_blank}
+use Rattle.hit_script.specs.Lines.{lines, is_blank}
 use Rattle.hit_script.specs.Command.{is_long, json_reading, command_or_fault}
 use Rattle.hit_script.specs.Reply.{node_line, done_line, hit_line, line_fault_line, edit_fault_line}
 use Rattle.hit_script.specs.declared.command.Command.{Command}

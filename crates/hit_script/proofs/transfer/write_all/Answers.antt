@@ -1,4 +1,4 @@
-use Rattle.std.proofs.Common.{◌≡◌, ◌+◌, ℕ, ◌∙◌, ap, option_map, length-take, length-drop, arith}
+use Rattle.std.proofs.Common.{ℕ, ◌∙◌, length-take, length-drop, arith}
 use Rattle.hit_script.proofs.Pieces.{taken_more}
 use Rattle.hit_script.proofs.transfer.write_all.Goals as goal
 

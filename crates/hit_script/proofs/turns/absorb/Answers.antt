@@ -1,4 +1,4 @@
-use Rattle.std.proofs.Common.{◌≡◌, [], ◌∷◌, ◌+◌, ◌<◌, ℕ, drop, get_or, length, sym, ◌∙◌}
+use Rattle.std.proofs.Common.{◌≡◌, [], ◌∷◌, ◌+◌, ◌<◌, drop, get_or, length, sym, ◌∙◌}
 use Rattle.std.proofs.lemmas.List.{append-nil, drop_more, drop_all}
 use Rattle.hit_script.proofs.Owing.{begun_open, begun_unfinished, owes_byte, owes_none}
 use Rattle.hit_script.proofs.LineLaws.{unfinished_none}
