@@ -7,11 +7,11 @@ use crate::{
 };
 use box_tree::EditFault;
 use fractions::{Blank, Brand, Ledger, Steps};
-use tree_edits::Engine;
 use std::alloc::{AllocError, Global};
 use std::io;
 use std::process::Abort;
 use std::test::Fail;
+use tree_edits::Engine;
 
 /// A piece as large as any.
 const EVER: usize = 65536;
@@ -92,6 +92,33 @@ fn calm_run(alloc: Global, script: &[u8], sink: &mut Taken) -> Result<Status, Ou
         at: 0,
     };
     play(alloc, &mut source, sink)
+}
+
+// How many nodes the page of the desk has after the script of three blocks.
+fn nodes_after_three_blocks<L: Ledger>(
+    rt: &impl Abort,
+    alloc: Global,
+    blank: Blank,
+) -> Result<u32, Fail>
+    requires name { blank.name ≡ L.name }
+    requires parts { blank.parts ≡ L.parts }
+    requires some_parts { 0 < blank.parts }
+{
+    let mut desk = Engine::new(alloc, 81920, 46080)?;
+    let mut steps = Steps::<L>::new(blank);
+    let mut source = source_of(alloc, THREE_BLOCKS, EVER, &[])?;
+    let mut sink = sink_of(alloc, EVER, &[])?;
+    let status = run(alloc, &[], &mut source, &mut sink, &mut desk, &mut steps);
+    assert_eq!(rt; status, Status::Done);
+    Ok(desk.page().count())
+}
+
+// A run that answered from a tree of its own would leave the desk's page as it was.
+#[test]
+fn the_page_is_that_of_the_desk(rt: HostRuntime) -> Result<(), Fail> {
+    let nodes = nodes_after_three_blocks::<Brand>(&rt, rt.alloc(), Blank::new(1))?;
+    assert_eq!(rt; nodes, 3);
+    Ok(())
 }
 
 // Scripts and the replies to them.
