@@ -8,9 +8,9 @@ ghost use Rattle.std.specs.Prelude.{◌≡◌, ◌<◌};
 
 use fractions::{Blank, Brand, Ledger, Steps};
 use hit_script::{Status, StdSink, StdSource, run};
-use tree_edits::Engine;
 use std::process::ExitCode;
 use std::{env, io};
+use tree_edits::Engine;
 
 /// The sides of the viewport at first, in units: 1,280 by 720 px.
 const WIDTH: i64 = 81920;
