@@ -9,7 +9,7 @@ use Rattle.serde_json.specs.Read.{read}
 use Rattle.box_tree.specs.declared.kind.Kind.{Kind}
 use Rattle.box_tree.specs.declared.kind.Kind.TheVariants.{Block}
 use Rattle.box_tree.specs.declared.piece.Piece.{Piece}
-use Rattle.box_tree.specs.declared.edit.Edit.TheVariants.{Add}
+use Rattle.box_tree.specs.declared.edit.Edit.TheVariants.{Add, Remove}
 use Rattle.box_tree.specs.Edited.{IsInRange}
 use Rattle.box_tree.specs.Contents.{IsWithin}
 use Rattle.hit_script.specs.declared.command.Command.{Command}
@@ -39,6 +39,10 @@ side = number_within (pos 0) (pos 67108864)
 -- a whole number from 0 to the bound
 abbrev pub number_to : ℕ → Data → Option ℕ
 number_to high d = option_map unsigned_abs (number_within (pos 0) (pos high) d)
+
+-- an id, which is a whole number from 1 to 4,294,967,295
+abbrev pub id_of : Data → Option ℕ
+id_of d = option_map unsigned_abs (number_within (pos 1) (pos 4294967295) d)
 
 -- the value is an array of so many items
 abbrev pub is_array_of : ℕ → Data → Bool
@@ -106,6 +110,15 @@ add_fields d = do
 unfoldable pub add_of : Data → Option Command
 add_of d = if is_object_of 6 d then add_fields d else None
 
+abbrev pub remove_fields : Data → Option Command
+remove_fields d = do
+  id ← get (codes "id") d >>= id_of
+  Some (Edit (Remove id))
+
+-- the row of `remove`, its keys in any order and no other key
+unfoldable pub remove_of : Data → Option Command
+remove_of d = if is_object_of 2 d then remove_fields d else None
+
 abbrev pub hit_fields : Data → Option Command
 hit_fields d = do
   x ← get (codes "x") d >>= coordinate
@@ -120,6 +133,7 @@ hit_of d = if is_object_of 3 d then hit_fields d else None
 abbrev pub row_named : List ℕ → Data → Option Command
 row_named op d =
     if bytes_eq op (codes "add") then add_of d
+    else if bytes_eq op (codes "remove") then remove_of d
     else if bytes_eq op (codes "hit") then hit_of d
     else None
 

@@ -5,7 +5,7 @@ ghost use Rattle.serde_json.specs.Find.{as_array, as_object, as_str};
 ghost use Rattle.serde_json.specs.View.{view, items_view};
 ghost use Rattle.box_tree.specs.Contents.{IsBoxInRange, IsWithin, IsSide};
 ghost use Rattle.box_tree.specs.declared.piece.Piece.{Piece};
-ghost use Rattle.hit_script.specs.Command.{number_within as within, coordinate as coordinate_in, side as side_in, number_to as number_up_to, is_array_of as has_items, is_object_of as has_keys, box_at, box_of, each_box, boxes_of, kind_named, style_of, new_node, add_of, hit_of, command_reading, IsAskable};
+ghost use Rattle.hit_script.specs.Command.{number_within as within, coordinate as coordinate_in, side as side_in, number_to as number_up_to, is_array_of as has_items, is_object_of as has_keys, box_at, box_of, each_box, boxes_of, id_of, kind_named, style_of, new_node, add_of, remove_of, hit_of, command_reading, IsAskable};
 
 use crate::command::Command;
 use box_tree::{Edit, Kind, Piece, PieceList};
@@ -47,6 +47,13 @@ fn number_to(found: Option<&Value>, high: u32) -> Option<u32>
     ensures in_range { IfSome result (λ n. n ≤ high) }
 {
     let number = number_within(found, 0, i64::from(high))?;
+    Some(number.unsigned_abs() as u32)
+}
+
+fn id_from(found: Option<&Value>) -> Option<u32>
+    ensures { result ≡ option_and_then id_of (option_map (λ v. view v.now) found.entry) }
+{
+    let number = number_within(found, 1, i64::from(u32::MAX))?;
     Some(number.unsigned_abs() as u32)
 }
 
@@ -192,6 +199,18 @@ fn add_from(alloc: Global, value: &Value) -> Result<Option<Command>, AllocError>
     })))
 }
 
+#[tactic(auto, unfolding(crate::specs::Command::remove_of))]
+fn remove_from(value: &Value) -> Option<Command>
+    ensures value { result ≡ remove_of (view value.now) }
+    ensures in_range { IfSome result IsAskable }
+{
+    if !is_object_of(value, 2) {
+        return None;
+    }
+    let id = id_from(value.get("id"))?;
+    Some(Command::Edit(Edit::Remove { id }))
+}
+
 #[tactic(auto, unfolding(crate::specs::Command::hit_of))]
 fn hit_from(value: &Value) -> Option<Command>
     ensures value { result ≡ hit_of (view value.now) }
@@ -213,6 +232,7 @@ pub fn command_from(alloc: Global, value: &Value) -> Result<Option<Command>, All
 {
     match value.get("op").and_then(Value::as_str) {
         Some("add") => add_from(alloc, value),
+        Some("remove") => Ok(remove_from(value)),
         Some("hit") => Ok(hit_from(value)),
         _ => Ok(None),
     }

@@ -204,6 +204,28 @@ const VALUES: &[u8] =
 const VALUES_REPLIES: &[u8] =
     b"err 3 command\nerr 3 command\nerr 3 command\nerr 3 command\nerr 3 command\nerr 3 command\nerr 3 command\nerr 3 command\nerr 3 command\nerr 3 command\nerr 3 command\nerr 3 command\nerr 4 absent\nerr 8 place\nerr 6 kind\nnode 1\n";
 
+/// Nodes that go with all below them, and ids that are not given again.
+const REMOVES: &[u8] =
+    br#"{"op":"add","parent":0,"at":0,"kind":"block","boxes":[[0,0,0,100,100]],"style":{}}
+{"op":"add","parent":1,"at":0,"kind":"block","boxes":[[0,0,0,10,10]],"style":{}}
+{"op":"add","parent":2,"at":0,"kind":"block","boxes":[[0,2,2,5,5]],"style":{}}
+{"op":"hit","x":3,"y":3}
+{"op":"remove","id":9}
+{"op":"remove","id":0}
+{"op":"remove","id":2,"all":true}
+{"id":2,"op":"remove"}
+{"op":"hit","x":3,"y":3}
+{"op":"remove","id":3}
+{"op":"add","parent":1,"at":0,"kind":"block","boxes":[[0,0,0,1,1]],"style":{}}
+{"op":"remove","id":1}
+{"op":"hit","x":5,"y":5}
+{"op":"add","parent":0,"at":0,"kind":"block","boxes":[[0,0,0,100,100]],"style":{}}
+{"op":"hit","x":5,"y":5}
+"#;
+
+const REMOVES_REPLIES: &[u8] =
+    b"node 1\nnode 2\nnode 3\nhit 3 2 1\nerr 4 absent\nerr 3 command\nerr 3 command\nok\nhit 1\nerr 4 absent\nnode 4\nok\nhit\nnode 5\nhit 5\n";
+
 fn assert_replies(
     rt: &impl Abort,
     alloc: Global,
@@ -226,6 +248,7 @@ fn scripts_are_answered(rt: HostRuntime) -> Result<(), Fail> {
     assert_replies(&rt, rt.alloc(), KEYS, KEYS_REPLIES)?;
     assert_replies(&rt, rt.alloc(), FORMS, FORMS_REPLIES)?;
     assert_replies(&rt, rt.alloc(), VALUES, VALUES_REPLIES)?;
+    assert_replies(&rt, rt.alloc(), REMOVES, REMOVES_REPLIES)?;
     assert_replies(&rt, rt.alloc(), ROOT, b"node 1\n")
 }
 
