@@ -6,8 +6,8 @@ ghost use Rattle.point_query.specs.Elements.{elements_from_point};
 use crate::reply::OutOfMemory;
 use box_tree::{Done, Edit, EditFault};
 use fractions::{Ledger, Steps};
-use tree_edits::Engine;
 use std::alloc::Global;
+use tree_edits::Engine;
 
 /// What keeps the page, and is asked for each edit and each query.
 pub trait Desk {

@@ -7,11 +7,11 @@ use crate::{
 };
 use box_tree::EditFault;
 use fractions::{Blank, Brand, Ledger, Steps};
-use tree_edits::Engine;
 use std::alloc::{AllocError, Global};
 use std::io;
 use std::process::Abort;
 use std::test::Fail;
+use tree_edits::Engine;
 
 /// A piece as large as any.
 const EVER: usize = 65536;
