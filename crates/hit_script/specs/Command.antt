@@ -1,4 +1,5 @@
--- What a line of a script asks for, as a function of its JSON reading.
+-- What a line of a script asks for, as a function of its JSON reading (RFC 8259, as `serde_json` reads it). Lengths are in
+-- units of 1/64 px.
 use Rattle.std.specs.Prelude.{ℕ, ◌^◌, ◌&&◌, ◌==◌, nat_lt, if◌then◌else◌, ℤ, pos, negsuc, ◌+ℤ◌, int_le, unsigned_abs, Bool, false, List, [], ◌∷◌, length, codes, Option, Some, None, option_map, option_and_then, Result, Err}
 use Rattle.std.specs.Option.{option_map_or, ok_or}
 use Rattle.std.specs.Str.{bytes_eq, is_utf8}
