@@ -10,7 +10,7 @@ use Rattle.serde_json.specs.Read.{read}
 use Rattle.box_tree.specs.declared.kind.Kind.{Kind}
 use Rattle.box_tree.specs.declared.kind.Kind.TheVariants.{Block}
 use Rattle.box_tree.specs.declared.piece.Piece.{Piece}
-use Rattle.box_tree.specs.declared.edit.Edit.TheVariants.{Add, Remove}
+use Rattle.box_tree.specs.declared.edit.Edit.TheVariants.{Add, Remove, Move}
 use Rattle.box_tree.specs.Edited.{IsInRange}
 use Rattle.box_tree.specs.Contents.{IsWithin}
 use Rattle.hit_script.specs.declared.command.Command.{Command}
@@ -120,6 +120,17 @@ remove_fields d = do
 unfoldable pub remove_of : Data → Option Command
 remove_of d = if is_object_of 2 d then remove_fields d else None
 
+abbrev pub move_fields : Data → Option Command
+move_fields d = do
+  id ← get (codes "id") d >>= id_of
+  parent ← get (codes "parent") d >>= number_to 4294967295
+  place ← get (codes "at") d >>= number_to 4294967295
+  Some (Edit (Move id parent place))
+
+-- the row of `move`, its keys in any order and no other key
+unfoldable pub move_of : Data → Option Command
+move_of d = if is_object_of 4 d then move_fields d else None
+
 abbrev pub hit_fields : Data → Option Command
 hit_fields d = do
   x ← get (codes "x") d >>= coordinate
@@ -135,6 +146,7 @@ abbrev pub row_named : List ℕ → Data → Option Command
 row_named op d =
     if bytes_eq op (codes "add") then add_of d
     else if bytes_eq op (codes "remove") then remove_of d
+    else if bytes_eq op (codes "move") then move_of d
     else if bytes_eq op (codes "hit") then hit_of d
     else None
 

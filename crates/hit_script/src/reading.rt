@@ -5,7 +5,7 @@ ghost use Rattle.serde_json.specs.Find.{as_array, as_object, as_str};
 ghost use Rattle.serde_json.specs.View.{view, items_view};
 ghost use Rattle.box_tree.specs.Contents.{IsBoxInRange, IsWithin, IsSide};
 ghost use Rattle.box_tree.specs.declared.piece.Piece.{Piece};
-ghost use Rattle.hit_script.specs.Command.{number_within as within, coordinate as coordinate_in, side as side_in, number_to as number_up_to, is_array_of as has_items, is_object_of as has_keys, box_at, box_of, each_box, boxes_of, id_of, kind_named, style_of, new_node, add_of, remove_of, hit_of, command_reading, IsAskable};
+ghost use Rattle.hit_script.specs.Command.{number_within as within, coordinate as coordinate_in, side as side_in, number_to as number_up_to, is_array_of as has_items, is_object_of as has_keys, box_at, box_of, each_box, boxes_of, id_of, kind_named, style_of, new_node, add_of, remove_of, move_of, hit_of, command_reading, IsAskable};
 
 use crate::command::Command;
 use box_tree::{Edit, Kind, Piece, PieceList};
@@ -211,6 +211,20 @@ fn remove_from(value: &Value) -> Option<Command>
     Some(Command::Edit(Edit::Remove { id }))
 }
 
+#[tactic(auto, unfolding(crate::specs::Command::move_of))]
+fn move_from(value: &Value) -> Option<Command>
+    ensures value { result ≡ move_of (view value.now) }
+    ensures in_range { IfSome result IsAskable }
+{
+    if !is_object_of(value, 4) {
+        return None;
+    }
+    let id = id_from(value.get("id"))?;
+    let parent = number_to(value.get("parent"), u32::MAX)?;
+    let at = number_to(value.get("at"), u32::MAX)?;
+    Some(Command::Edit(Edit::Move { id, parent, at }))
+}
+
 #[tactic(auto, unfolding(crate::specs::Command::hit_of))]
 fn hit_from(value: &Value) -> Option<Command>
     ensures value { result ≡ hit_of (view value.now) }
@@ -233,6 +247,7 @@ pub fn command_from(alloc: Global, value: &Value) -> Result<Option<Command>, All
     match value.get("op").and_then(Value::as_str) {
         Some("add") => add_from(alloc, value),
         Some("remove") => Ok(remove_from(value)),
+        Some("move") => Ok(move_from(value)),
         Some("hit") => Ok(hit_from(value)),
         _ => Ok(None),
     }
