@@ -93,7 +93,7 @@ ancestors_in above f id = option_map_or (λ p. p.label ∷ p.above) (placed_in a
 abbrev pub children_in : List Label → Forest → ℕ → ℕ
 children_in above f id = option_map_or (λ p. length (roots_of p.below)) (placed_in above f id) 0
 
-map-or : {A B : Type 0} (f : A → B) (x y : Option A) → option_map f (option_or x y) ≡ option_or (option_map f x) (option_map f y)
+pub map-or : {A B : Type 0} (f : A → B) (x y : Option A) → option_map f (option_or x y) ≡ option_or (option_map f x) (option_map f y)
 map-or f None y = refl
 map-or f (Some x) y = refl
 
@@ -101,7 +101,7 @@ or_assoc : {A : Type 0} (x y z : Option A) → option_or (option_or x y) z ≡ o
 or_assoc None y z = refl
 or_assoc (Some x) y z = refl
 
-or-none : {A : Type 0} (x : Option A) → option_or x None ≡ x
+pub or-none : {A : Type 0} (x : Option A) → option_or x None ≡ x
 or-none None = refl
 or-none (Some x) = refl
 

@@ -89,7 +89,7 @@ above-slice (first ∷ nodes) low (suc i) n rising is = omega (arith, rising.0, 
 
 module _ (parent at child : ℕ) where
   -- a node that isn't the parent has no child more
-  other_child : (nodes : List Node) (id : ℕ) → id ≢ parent → option_map (with_child parent at child) (node_with nodes id) ≡ node_with nodes id
+  pub other_child : (nodes : List Node) (id : ℕ) → id ≢ parent → option_map (with_child parent at child) (node_with nodes id) ≡ node_with nodes id
   other_child [] id other = refl
   other_child (n ∷ nodes) id other = grind (arith, nat_tests, other_child nodes id other)
 

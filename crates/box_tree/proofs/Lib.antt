@@ -10,3 +10,4 @@ pub mod SubtreeLemmas
 pub mod TakenLemmas
 pub mod CountLemmas
 pub mod RemoveLemmas
+pub mod MoveLemmas

@@ -7,7 +7,7 @@ use Rattle.std.proofs.lemmas.Bool.{cases_lt, cases_eq}
 use Rattle.std.proofs.lemmas.Bool.Decides.{nat_tests}
 use Rattle.box_tree.specs.declared.node.Node.{Node}
 use Rattle.box_tree.specs.declared.edit.Edit.{Edit}
-use Rattle.box_tree.specs.declared.edit.Edit.TheVariants.{Add, Remove}
+use Rattle.box_tree.specs.declared.edit.Edit.TheVariants.{Add, Remove, Move}
 use Rattle.box_tree.specs.declared.plan.Plan.TheVariants.{RemoveNodes}
 use Rattle.box_tree.specs.Forest.{Forest, End, Grow, roots_of, occurrences, Placed, placed_in}
 use Rattle.box_tree.specs.Contents.{Contents, node_at, node_of, placed_of, tree_of, has_id, parent_id, IsGiven, IsSuited, IsValid}
@@ -28,6 +28,13 @@ use mathlib.Core.Bool.{false≢true}
 -- a node without the tree of one that goes
 pub node_at-without : (id : ℕ) (p : Placed) → node_at (place_without id p) ≡ record (node_at p) { children = ids_without id (roots_of p.below) }
 node_at-without id p = ap (λ children. record (node_at p) { children = children }) (roots-taken_out p.below id)
+
+-- a node of the page on the page without the tree of one
+pub node_without : (page : Contents) (id k : ℕ) (n : Node) → node_of page k ≡ Some n → option_map node_at (option_map (place_without id) (placed_of page k)) ≡ Some (record n { children = ids_without id n.children })
+node_without page id k n is =
+    let seen = seen_at page k n is in
+    ap (λ o. option_map node_at (option_map (place_without id) o)) seen.found
+    ∙ ap Some (node_at-without id seen.place ∙ ap (λ (m : Node). record m { children = ids_without id m.children }) seen.node_is)
 
 module _ (page : Contents) (valid : IsValid page) (id : ℕ) where
   pub valid-removed : IsValid (record page { tree = taken_out id page.tree })
@@ -60,9 +67,9 @@ module _ (page : Contents) (valid : IsValid page) (id : ℕ) where
         count = rw tree_is refl;
       }
 
-  module _ (q : Placed) (found : placed_of page id ≡ Some q) (parent : ℕ) (below : parent_id q.above ≡ parent) (named : parent ≢ 0) where
+  module _ (q : Placed) (found : placed_of page id ≡ Some q) (parent : ℕ) (below : parent_id q.above ≡ parent) where
     -- a node that isn't the parent has no child less
-    other_node : (k : ℕ) → k ≢ parent → option_map node_at (option_map (place_without id) (placed_of page k)) ≡ node_of page k
+    pub other_node : (k : ℕ) → k ≢ parent → option_map node_at (option_map (place_without id) (placed_of page k)) ≡ node_of page k
     other_node k other = by_place (placed_of page k) refl
       where
         by_place : (o : Option Placed) → placed_of page k ≡ o → option_map node_at (option_map (place_without id) o) ≡ option_map node_at o
@@ -71,18 +78,11 @@ module _ (page : Contents) (valid : IsValid page) (id : ℕ) where
             let apart : parent_id q.above ≢ p.label.id = λ same. other (sym (id-placed_in page.tree [] k p is) ∙ sym same ∙ below) in
             ap Some (node_at-without id p ∙ ap (λ children. record (node_at p) { children = children }) (no_child page p.below (p.label ∷ p.above) id q (found-at_places page k p valid is) found apart))
 
-    -- the parent has that child less
-    the_parent : (n : Node) → node_of page parent ≡ Some n → option_map node_at (option_map (place_without id) (placed_of page parent)) ≡ Some (record n { children = ids_without id n.children })
-    the_parent n is =
-        let seen = seen_at page parent n is in
-        ap (λ o. option_map node_at (option_map (place_without id) o)) seen.found
-        ∙ ap Some (node_at-without id seen.place ∙ ap (λ (m : Node). record m { children = ids_without id m.children }) seen.node_is)
-
     -- the nodes of the page without those that go
-    pub kept-removed : (first : Option ℕ) (nodes : List Node) (i : ℕ) (n : Node) (gone : List ℕ) → IsKept nodes first page → slice_get nodes i ≡ Some n → n.id ≡ parent →
+    pub kept-removed : parent ≢ 0 → (first : Option ℕ) (nodes : List Node) (i : ℕ) (n : Node) (gone : List ℕ) → IsKept nodes first page → slice_get nodes i ≡ Some n → n.id ≡ parent →
         ((other : ℕ) → is_among gone other ≡ nat_lt 0 (occurrences (tree_of page id) other)) →
         IsKept (filter (λ m. not (is_among gone m.id)) (set nodes i (record n { children = ids_without id n.children }))) first (record page { tree = taken_out id page.tree })
-    kept-removed first nodes i n gone kept is same gone_are = record {
+    kept-removed named first nodes i n gone kept is same gone_are = record {
       valid = valid-removed;
       looked_up = known;
       rising = rising;
@@ -101,7 +101,7 @@ module _ (page : Contents) (valid : IsValid page) (id : ℕ) where
 
         staying : (k : ℕ) → 0 < occurrences (taken_out id page.tree) k → node_with changed k ≡ option_map node_at (option_map (place_without id) (placed_of page k))
         staying k stays = node_with-replaced nodes 0 i k n _ kept.rising is refl ∙ elim (cases_eq k parent) [
-          | inl at_parent ↦ rw (at_parent, the_parent n parent_is) (grind (arith, nat_tests))
+          | inl at_parent ↦ rw (at_parent, node_without page id parent n parent_is) (grind (arith, nat_tests))
           | inr other ↦ let apart : n.id ≢ k = (λ here. other (sym here ∙ same)) in rw (other_node k other, ← kept.looked_up k) (grind (arith, nat_tests))
         ]
 
@@ -139,7 +139,7 @@ pub record IsPlacedBelow (page : Contents) (id parent : ℕ) : Type 0 where
   pub found : placed_of page id ≡ Some place
   pub parent_is : parent_id place.above ≡ parent
 
-placed_below : (page : Contents) (id parent : ℕ) → option_map (λ (n : Node). n.parent) (node_of page id) ≡ Some parent → IsPlacedBelow page id parent
+pub placed_below : (page : Contents) (id parent : ℕ) → option_map (λ (n : Node). n.parent) (node_of page id) ≡ Some parent → IsPlacedBelow page id parent
 placed_below page id parent is = by_place (placed_of page id) refl is
   where
     by_place : (o : Option Placed) → placed_of page id ≡ o → option_map (λ (n : Node). n.parent) (option_map node_at o) ≡ Some parent → IsPlacedBelow page id parent
@@ -149,6 +149,7 @@ placed_below page id parent is = by_place (placed_of page id) refl is
 -- a planned remove of the root
 pub planned-remove_root : (state : PageState) (nodes : List Node) (first : Option ℕ) (edit : Edit) (parent : ℕ) (siblings gone : List ℕ) → IsKept nodes first state.contents → IsPlanned (RemoveNodes parent siblings gone) edit state → parent ≡ 0 → MeansEdited [] None state.contents.viewport state.contents.next state.contents edit
 planned-remove_root state nodes first (Add _ _ _ _) parent siblings gone kept planned is_root = absurd planned.plan_is
+planned-remove_root state nodes first (Move _ _ _) parent siblings gone kept planned is_root = absurd planned.plan_is
 planned-remove_root state nodes first (Remove id) parent siblings gone kept planned is_root =
     let page = state.contents in
     let placed = placed_below page id parent planned.plan_is.parent_is in
@@ -160,6 +161,7 @@ planned-remove_root state nodes first (Remove id) parent siblings gone kept plan
 -- the parent of a node that goes is one of the nodes
 pub planned-remove_parent : (state : PageState) (nodes : List Node) (first : Option ℕ) (edit : Edit) (parent : ℕ) (siblings gone : List ℕ) → IsKept nodes first state.contents → IsPlanned (RemoveNodes parent siblings gone) edit state → parent ≢ 0 → IsSome (node_with nodes parent)
 planned-remove_parent state nodes first (Add _ _ _ _) parent siblings gone kept planned is_child = absurd planned.plan_is
+planned-remove_parent state nodes first (Move _ _ _) parent siblings gone kept planned is_child = absurd planned.plan_is
 planned-remove_parent state nodes first (Remove id) parent siblings gone kept planned is_child =
     let page = state.contents in
     let placed = placed_below page id parent planned.plan_is.parent_is in
@@ -173,6 +175,7 @@ planned-remove_parent state nodes first (Remove id) parent siblings gone kept pl
 pub planned-remove_child : (state : PageState) (nodes : List Node) (first : Option ℕ) (edit : Edit) (parent : ℕ) (siblings gone : List ℕ) (i : ℕ) (n : Node) → IsKept nodes first state.contents → IsPlanned (RemoveNodes parent siblings gone) edit state → parent ≢ 0 → slice_get nodes i ≡ Some n → n.id ≡ parent →
     MeansEdited (filter (λ m. not (is_among gone m.id)) (set nodes i (record n { children = siblings }))) first state.contents.viewport state.contents.next state.contents edit
 planned-remove_child state nodes first (Add _ _ _ _) parent siblings gone i n kept planned is_child is same = absurd planned.plan_is
+planned-remove_child state nodes first (Move _ _ _) parent siblings gone i n kept planned is_child is same = absurd planned.plan_is
 planned-remove_child state nodes first (Remove id) parent siblings gone i n kept planned is_child is same =
     let page = state.contents in
     let placed = placed_below page id parent planned.plan_is.parent_is in

@@ -120,3 +120,23 @@ occurrences-parted (Grow first firsts others) above id other once = elim (cases_
         (omega (arith, occurrences-parted others above id other (omega (arith, once))))
   ]
 ]
+
+-- a node is in the tree that goes or in what stays
+pub node_count-parted : (f : Forest) (above : List Label) (id : ℕ) → occurrences f id ≤ 1 → node_count f ≡ node_count (taken_out id f) + node_count (tree_in above f id)
+node_count-parted End above id once = refl
+node_count-parted (Grow first firsts others) above id once = elim (cases_eq first.id id) [
+  | inl here ↦
+      let place : placed_in above (Grow first firsts others) id ≡ Some (record { label = first; above = above; below = firsts }) = rw (← here) (placed_in-head first firsts others above) in
+      let none : occurrences others id ≡ 0 = grind (arith, nat_tests) in
+      rw (taken_out-head first firsts others id here, taken_out-absent others id none, ap (λ p. option_map_or (λ q. Grow q.label q.below End) p End) place) (omega arith)
+  | inr apart ↦ elim (cases_lt 0 (occurrences firsts id)) [
+    | inl some ↦
+        let none : occurrences others id ≡ 0 = grind (arith, nat_tests) in
+        rw (taken_out-other first firsts others id apart, taken_out-absent others id none, ap (λ p. option_map_or (λ q. Grow q.label q.below End) p End) (placed_in-below first firsts others above id apart some))
+        (omega (arith, node_count-parted firsts (first ∷ above) id (omega (arith, once))))
+    | inr few ↦
+        let none : occurrences firsts id ≡ 0 = omega arith in
+        rw (taken_out-other first firsts others id apart, taken_out-absent firsts id none, ap (λ p. option_map_or (λ q. Grow q.label q.below End) p End) (placed_in-others first firsts others above id apart none))
+        (omega (arith, node_count-parted others above id (omega (arith, once))))
+  ]
+]

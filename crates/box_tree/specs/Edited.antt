@@ -1,19 +1,21 @@
 -- What an edit makes of a page, and why it may be refused.
 use Rattle.std.specs.Prelude.{ℕ, zero, suc, ◌+◌, List, [], ◌∷◌, length, Option, Some, None, Bool, not, ◌&&◌, ◌||◌, if◌then◌else◌, ◌==◌, nat_lt, nat_le, All, codes}
 use Rattle.std.specs.Option.{option_map_or}
+use Rattle.std.specs.List.{list_any}
 use Rattle.box_tree.specs.declared.edit.Edit.{Edit}
-use Rattle.box_tree.specs.declared.edit.Edit.TheVariants.{Add, Remove}
+use Rattle.box_tree.specs.declared.edit.Edit.TheVariants.{Add, Remove, Move}
 use Rattle.box_tree.specs.declared.edit.Done.{Done}
 use Rattle.box_tree.specs.declared.edit.Done.TheVariants.{Node as NodeAdded, Done as EditDone}
 use Rattle.box_tree.specs.declared.edit.EditFault.{EditFault}
 use Rattle.box_tree.specs.declared.edit.EditFault.TheVariants as fault
-use Rattle.box_tree.specs.Forest.{Label, Forest, End, Grow, roots_of, node_count}
-use Rattle.box_tree.specs.Contents.{Contents, placed_of, has_id, depth_below, boxes_suit, IsBoxInRange}
+use Rattle.box_tree.specs.Forest.{Label, Forest, End, Grow, roots_of, node_count, height_of, occurrences}
+use Rattle.box_tree.specs.Contents.{Contents, placed_of, tree_of, has_id, depth_below, boxes_suit, IsBoxInRange}
 
 -- the numbers of an edit are within their limits
 abbrev pub IsInRange : Edit → Type 0
 IsInRange (Add parent at kind boxes) = All IsBoxInRange boxes
 IsInRange (Remove id) = Unit {0}
+IsInRange (Move id parent at) = Unit {0}
 
 -- the trees with one more at place `at`
 abbrev pub put_in : ℕ → Label → Forest → Forest → Forest
@@ -38,6 +40,10 @@ taken_out id End = End
 taken_out id (Grow first firsts others) =
     if first.id == id then taken_out id others else Grow first (taken_out id firsts) (taken_out id others)
 
+-- the trees with that of the node `id` moved: taken out, and then put in as child number `at` of `parent`
+abbrev pub moved : Contents → ℕ → ℕ → ℕ → Forest
+moved page id parent at = option_map_or (λ p. put_below parent at p.label p.below (taken_out id page.tree)) (placed_of page id) page.tree
+
 -- the page that an edit without a fault leaves
 abbrev pub edited : Contents → Edit → Contents
 edited page (Add parent at kind boxes) = record page {
@@ -45,11 +51,13 @@ edited page (Add parent at kind boxes) = record page {
   next = page.next + 1;
 }
 edited page (Remove id) = record page { tree = taken_out id page.tree }
+edited page (Move id parent at) = record page { tree = moved page id parent at }
 
 -- what it answers then
 abbrev pub answer_of : Contents → Edit → Done
 answer_of page (Add parent at kind boxes) = NodeAdded page.next
 answer_of page (Remove id) = EditDone
+answer_of page (Move id parent at) = EditDone
 
 -- the ancestors that a child of `parent` has, from that node on up
 abbrev pub ancestors_below : Contents → ℕ → List Label
@@ -59,12 +67,20 @@ ancestors_below page parent = option_map_or (λ p. p.label ∷ p.above) (placed_
 abbrev pub child_count : Contents → ℕ → ℕ
 child_count page parent = option_map_or (λ p. length (roots_of p.below)) (placed_of page parent) 0
 
+-- the page without the tree of a node
+abbrev pub page_without : Contents → ℕ → Contents
+page_without page id = record page { tree = taken_out id page.tree }
+
+-- whether a node is the root
+abbrev pub is_root : Contents → ℕ → Bool
+is_root page id = list_any (λ root. root == id) (roots_of page.tree)
+
 -- the fault of the first test that holds
 abbrev pub first_of : List (Bool × EditFault) → Option EditFault
 first_of [] = None
 first_of ((holds, why) ∷ others) = if holds then Some why else first_of others
 
--- the table of faults
+-- the table of faults; a move can't offend the kinds, since every node is a block and a block may hold any block
 abbrev pub faults_of : Contents → Edit → List (Bool × EditFault)
 faults_of page (Add parent at kind boxes) =
     (not (parent == 0 || has_id page parent), fault.Absent)
@@ -75,6 +91,13 @@ faults_of page (Add parent at kind boxes) =
     ∷ (nat_le 65536 (node_count page.tree) || nat_lt 1048576 page.next, fault.Full)
     ∷ []
 faults_of page (Remove id) = (not (has_id page id), fault.Absent) ∷ []
+faults_of page (Move id parent at) =
+    (not (has_id page id) || not (parent == 0 || has_id page parent), fault.Absent)
+    ∷ (parent == 0 || is_root page id, fault.Root)
+    ∷ (nat_lt 0 (occurrences (tree_of page id) parent), fault.Cycle)
+    ∷ (nat_lt (child_count (page_without page id) parent) at, fault.Place)
+    ∷ (nat_lt 256 (length (ancestors_below page parent) + height_of (tree_of page id)), fault.Deep)
+    ∷ []
 
 -- the first fault of an edit on a page, where it has one
 abbrev pub first_fault : Contents → Edit → Option EditFault
@@ -85,6 +108,7 @@ abbrev pub fault_number : EditFault → Option ℕ
 fault_number fault.Absent = Some 4
 fault_number fault.Root = Some 5
 fault_number fault.Kind = Some 6
+fault_number fault.Cycle = Some 7
 fault_number fault.Place = Some 8
 fault_number fault.Deep = Some 9
 fault_number fault.Full = Some 10
@@ -95,6 +119,7 @@ abbrev pub fault_name : EditFault → List ℕ
 fault_name fault.Absent = codes "absent"
 fault_name fault.Root = codes "root"
 fault_name fault.Kind = codes "kind"
+fault_name fault.Cycle = codes "cycle"
 fault_name fault.Place = codes "place"
 fault_name fault.Deep = codes "deep"
 fault_name fault.Full = codes "full"

@@ -1,5 +1,5 @@
 -- What a prepared edit holds, and an edit that was carried out.
-use Rattle.std.specs.Prelude.{◌≡◌, ℕ, ◌<◌, ◌==◌, List, [], Bool, not, None, Some, nat_lt}
+use Rattle.std.specs.Prelude.{◌≡◌, ℕ, ◌+◌, ◌-◌, ◌^◌, ◌<◌, ◌==◌, min, if◌then◌else◌, List, [], Bool, not, None, Some, nat_lt}
 use Rattle.std.specs.Option.{option_map, option_map_or}
 use Rattle.std.specs.List.{insert, filter, list_any}
 use Rattle.std.specs.List.Sorted.{IsNonDecreasing}
@@ -7,11 +7,12 @@ use Rattle.box_tree.specs.declared.kind.Kind.{Kind}
 use Rattle.box_tree.specs.declared.piece.Piece.{Piece}
 use Rattle.box_tree.specs.declared.node.Node.{Node}
 use Rattle.box_tree.specs.declared.edit.Edit.{Edit}
-use Rattle.box_tree.specs.declared.edit.Edit.TheVariants.{Add, Remove}
+use Rattle.box_tree.specs.declared.edit.Edit.TheVariants.{Add, Remove, Move}
 use Rattle.box_tree.specs.declared.plan.Plan.{Plan}
-use Rattle.box_tree.specs.declared.plan.Plan.TheVariants.{AddNode, RemoveNodes}
+use Rattle.box_tree.specs.declared.plan.Relocation.{Relocation}
+use Rattle.box_tree.specs.declared.plan.Plan.TheVariants.{AddNode, RemoveNodes, MoveNodes}
 use Rattle.box_tree.specs.Forest.{End, node_count, occurrences}
-use Rattle.box_tree.specs.Contents.{Contents, node_at, node_of, tree_of}
+use Rattle.box_tree.specs.Contents.{Contents, depth_below, node_at, node_of, tree_of}
 use Rattle.box_tree.specs.Edited.{IsInRange, first_fault, ancestors_below}
 use Rattle.box_tree.specs.PageState.{PageState}
 
@@ -52,10 +53,35 @@ pub record IsRemovePlan (page : Contents) (id parent : ℕ) (siblings gone : Lis
   pub siblings_are : siblings ≡ children_without page parent id
   pub gone_are : AreIdsOfTree page id gone
 
+-- a node of a moved tree at its new depth, the moved node itself below its new parent
+abbrev pub relocated : Relocation → Node → Node
+relocated r n = record n { parent = if n.id == r.id then r.parent else n.parent; depth = min (n.depth - r.old_depth + r.depth) (2 ^ 32 - 1) }
+
+-- a node, relocated where it is one of the moved nodes
+abbrev pub relocated_among : Relocation → List ℕ → Node → Node
+relocated_among r ids n = if is_among ids n.id then relocated r n else n
+
+-- where a node of the page goes that is moved below `parent`
+pub record IsPlaceFor (page : Contents) (id parent : ℕ) (r : Relocation) : Type 0 where
+  pub id_is : r.id ≡ id
+  pub parent_is : r.parent ≡ parent
+  pub from_is : option_map (λ n. n.parent) (node_of page id) ≡ Some r.from
+  pub old_depth_is : option_map (λ n. n.depth) (node_of page id) ≡ Some r.old_depth
+  pub depth_is : r.depth ≡ depth_below (ancestors_below page parent)
+
+-- where a node goes, the children of the old parent without it, those of the new parent with it, and the ids of the
+-- moved tree, as a move needs them
+pub record IsMovePlan (page : Contents) (id parent at : ℕ) (r : Relocation) (siblings children ids : List ℕ) : Type 0 where
+  pub place_is : IsPlaceFor page id parent r
+  pub siblings_are : siblings ≡ children_without page r.from id
+  pub children_are : children ≡ insert (children_without page parent id) at id
+  pub ids_are : AreIdsOfTree page id ids
+
 -- the plan is one for the edit on the page
 abbrev pub IsPlanFor : Plan → Edit → PageState → Type 0
 IsPlanFor (AddNode node siblings) (Add parent at kind boxes) page = IsAddPlan page parent at kind boxes node siblings
 IsPlanFor (RemoveNodes parent siblings gone) (Remove id) page = IsRemovePlan page.contents id parent siblings gone
+IsPlanFor (MoveNodes place siblings children ids) (Move id parent at) page = IsMovePlan page.contents id parent at place siblings children ids
 IsPlanFor plan edit page = ⊥
 
 -- an edit that may be carried out, and its plan

@@ -21,6 +21,12 @@ pub enum Edit {
     Remove {
         id: u32,
     },
+    /// The node goes with all below it to be child number `at` of `parent`, where the node itself isn't counted.
+    Move {
+        id: u32,
+        parent: u32,
+        at: u32,
+    },
 }
 
 impl Edit {
@@ -30,7 +36,7 @@ impl Edit {
     {
         match self {
             Edit::Add { boxes, .. } => boxes.0.iter().all(|piece| piece.in_range()),
-            Edit::Remove { .. } => true,
+            Edit::Remove { .. } | Edit::Move { .. } => true,
         }
     }
 }
@@ -49,10 +55,12 @@ pub enum Done {
 pub enum EditFault {
     #[error("an id that it names is not in the page")]
     Absent,
-    #[error("the page would have a second root")]
+    #[error("the page would have a second root, or its root would have a parent")]
     Root,
     #[error("the kind does not suit its parent, or the boxes do not suit the kind")]
     Kind,
+    #[error("a node would be moved below itself")]
+    Cycle,
     #[error("the place is above the number of children")]
     Place,
     #[error("a node would be deeper than 256")]
@@ -72,6 +80,7 @@ impl EditFault {
             EditFault::Absent => Some(4),
             EditFault::Root => Some(5),
             EditFault::Kind => Some(6),
+            EditFault::Cycle => Some(7),
             EditFault::Place => Some(8),
             EditFault::Deep => Some(9),
             EditFault::Full => Some(10),
@@ -87,6 +96,7 @@ impl EditFault {
             EditFault::Absent => "absent",
             EditFault::Root => "root",
             EditFault::Kind => "kind",
+            EditFault::Cycle => "cycle",
             EditFault::Place => "place",
             EditFault::Deep => "deep",
             EditFault::Full => "full",

@@ -15,6 +15,7 @@ use std::marker::Model;
 use std::snapshot::Snapshot;
 
 mod adds;
+mod moves;
 mod removes;
 
 /// A page: a tree of nodes or none, seen through a viewport.
@@ -132,6 +133,7 @@ impl Page {
                 boxes,
             } => self.plan_add(*parent, *at, *kind, boxes)?,
             Edit::Remove { id } => self.plan_remove(*id)?,
+            Edit::Move { id, parent, at } => self.plan_move(*id, *parent, *at)?,
         };
         Ok(Prepared {
             plan,
@@ -162,6 +164,12 @@ impl Page {
                 siblings,
                 gone,
             } => self.remove(parent, siblings, gone, &edit),
+            Plan::MoveNodes {
+                place,
+                siblings,
+                children,
+                ids,
+            } => self.relocate(place, siblings, children, ids, &edit),
         };
         Undo {
             done,

@@ -4,6 +4,20 @@ use crate::page::Page;
 use std::marker::Model;
 use std::snapshot::Snapshot;
 
+/// Where a moved node goes.
+#[derive(Clone, Copy)]
+pub(crate) struct Relocation {
+    pub(crate) id: u32,
+    /// The parent before the move.
+    pub(crate) from: u32,
+    /// The parent after it.
+    pub(crate) parent: u32,
+    /// The depth of the node before the move.
+    pub(crate) old_depth: u32,
+    /// The depth of the node after it.
+    pub(crate) depth: u32,
+}
+
 /// What carrying out an edit needs, with all its memory.
 #[derive(Drop)]
 pub(crate) enum Plan {
@@ -17,6 +31,14 @@ pub(crate) enum Plan {
         parent: u32,
         siblings: IdList,
         gone: IdList,
+    },
+    /// Where the node goes, the children that its old parent and then its new one have, and the ids of all nodes that go
+    /// with it.
+    MoveNodes {
+        place: Relocation,
+        siblings: IdList,
+        children: IdList,
+        ids: IdList,
     },
 }
 

@@ -27,15 +27,15 @@ const NODES: usize = 65_536;
 const IDS: u32 = 1_048_576;
 
 // The greatest depth.
-const LEVELS: u32 = 256;
+pub(super) const LEVELS: u32 = 256;
 
 // What a node below another one, or below none, has to fit into.
 #[derive(Clone, Copy)]
-struct Seat {
+pub(super) struct Seat {
     // how many children there are
-    children: usize,
+    pub(super) children: usize,
     // how deep the other one is, and 0 where there is none
-    depth: u32,
+    pub(super) depth: u32,
 }
 
 impl Page {
@@ -155,7 +155,7 @@ impl Page {
 }
 
 // The seat below a node, or below none.
-fn seat_below(above: Option<&Node>) -> Seat
+pub(super) fn seat_below(above: Option<&Node>) -> Seat
     ensures children { result.children ≡ option_map_or (λ n. length n.children) (option_copied above.entry) 0 }
     ensures depth { result.depth ≡ option_map_or (λ n. n.depth) (option_copied above.entry) 0 }
 {

@@ -80,7 +80,11 @@ impl Page {
 }
 
 // The children of a node without one of them, and none where there is no node.
-fn siblings_without(alloc: Global, above: Option<&Node>, id: u32) -> Result<IdList, AllocError>
+pub(super) fn siblings_without(
+    alloc: Global,
+    above: Option<&Node>,
+    id: u32,
+) -> Result<IdList, AllocError>
     ensures { IfOk result (λ list. list ≡ option_map_or (λ n. ids_without id n.children) (option_copied above.entry) []) }
 {
     match above {
@@ -90,7 +94,7 @@ fn siblings_without(alloc: Global, above: Option<&Node>, id: u32) -> Result<IdLi
 }
 
 // The ids of a node and of all below it, in an order in which they can be searched.
-fn ids_of_tree(alloc: Global, page: &Page, id: u32) -> Result<IdList, AllocError>
+pub(super) fn ids_of_tree(alloc: Global, page: &Page, id: u32) -> Result<IdList, AllocError>
     ensures { IfOk result (AreIdsOfTree page.now.contents id) }
 {
     page.validity();

@@ -126,6 +126,7 @@ fn faults_have_their_names(rt: HostRuntime) {
         (EditFault::Absent, Some(4), "absent"),
         (EditFault::Root, Some(5), "root"),
         (EditFault::Kind, Some(6), "kind"),
+        (EditFault::Cycle, Some(7), "cycle"),
         (EditFault::Place, Some(8), "place"),
         (EditFault::Deep, Some(9), "deep"),
         (EditFault::Full, Some(10), "full"),
@@ -136,11 +137,13 @@ fn faults_have_their_names(rt: HostRuntime) {
     }
 }
 
-// An edit of a table: an add of a block with a box, or a remove.
+// An edit of a table: an add of a block with a box or without one, a remove, or a move.
 #[derive(Clone, Copy, Debug)]
 enum Step {
     Add(u32, u32),
+    AddBare(u32),
     Remove(u32),
+    Move(u32, u32, u32),
 }
 
 // The answer of the page to an edit of a table.
@@ -152,7 +155,9 @@ fn answer_to(
 ) -> Result<Result<u32, Option<u8>>, Fail> {
     let edit = match step {
         Step::Add(parent, at) => block(alloc, parent, at, [(0, 0)].as_slice())?,
+        Step::AddBare(parent) => block(alloc, parent, 0, [].as_slice())?,
         Step::Remove(id) => Edit::Remove { id },
+        Step::Move(id, parent, at) => Edit::Move { id, parent, at },
     };
     Ok(answer(rt, page, &edit))
 }
@@ -225,6 +230,180 @@ fn no_id_is_given_again_after_a_remove(rt: HostRuntime) -> Result<(), Fail> {
             "{step:?}"
         );
         assert_eq!(rt; page.root(), root, "after {step:?}");
+    }
+    Ok(())
+}
+
+// The parent and the depth of a node.
+fn seat_with<L: Ledger>(page: &Page, id: u32, blank: Blank) -> (u32, u32)
+    requires there { IsTrue (has_id page.now.contents id) }
+    requires name { blank.name ≡ L.name }
+    requires parts { blank.parts ≡ L.parts }
+    requires some_parts { 0 < blank.parts }
+{
+    let mut steps = Steps::<L>::new(blank);
+    let node = page.node(id, &mut steps);
+    (node.parent, node.depth)
+}
+
+#[test]
+fn the_place_of_a_move_counts_the_other_children(rt: HostRuntime) -> Result<(), Fail> {
+    let alloc = rt.alloc();
+    let mut page = Page::new(alloc, 81_920, 46_080);
+    for (step, expected, children) in [
+        (Step::Add(0, 0), Ok(1), [].as_slice()),
+        (Step::Add(1, 0), Ok(2), [2].as_slice()),
+        (Step::Add(1, 1), Ok(3), [2, 3].as_slice()),
+        (Step::Add(1, 2), Ok(4), [2, 3, 4].as_slice()),
+        (Step::Add(1, 3), Ok(5), [2, 3, 4, 5].as_slice()),
+        (Step::Move(3, 1, 0), Ok(0), [3, 2, 4, 5].as_slice()),
+        (Step::Move(3, 1, 1), Ok(0), [2, 3, 4, 5].as_slice()),
+        (Step::Move(3, 1, 1), Ok(0), [2, 3, 4, 5].as_slice()),
+        (Step::Move(3, 1, 2), Ok(0), [2, 4, 3, 5].as_slice()),
+        (Step::Move(3, 1, 3), Ok(0), [2, 4, 5, 3].as_slice()),
+        (Step::Move(3, 1, 4), Err(Some(8)), [2, 4, 5, 3].as_slice()),
+        (Step::Move(2, 1, 1), Ok(0), [4, 2, 5, 3].as_slice()),
+        (Step::Move(5, 1, 0), Ok(0), [5, 4, 2, 3].as_slice()),
+        (Step::Move(3, 1, 1), Ok(0), [5, 3, 4, 2].as_slice()),
+        (Step::Move(4, 3, 1), Err(Some(8)), [5, 3, 4, 2].as_slice()),
+        (Step::Move(4, 3, 0), Ok(0), [5, 3, 2].as_slice()),
+        (Step::Move(4, 1, 3), Ok(0), [5, 3, 2, 4].as_slice()),
+    ] {
+        assert_eq!(rt;
+            answer_to(&rt, alloc, &mut page, step)?,
+            expected,
+            "{step:?}"
+        );
+        assert!(rt; page.has(1));
+        let now = children_with::<Brand>(alloc, &page, 1, Blank::new(1))?;
+        assert_eq!(rt; now.as_slice(), children, "after {step:?}");
+    }
+    Ok(())
+}
+
+#[test]
+fn faults_of_moves_come_in_the_order_of_the_table(rt: HostRuntime) -> Result<(), Fail> {
+    let alloc = rt.alloc();
+    let mut page = Page::new(alloc, 81_920, 46_080);
+    for (step, expected) in [
+        (Step::Move(1, 1, 0), Err(Some(4))),
+        (Step::Add(0, 0), Ok(1)),
+        (Step::Add(1, 0), Ok(2)),
+        (Step::Add(2, 0), Ok(3)),
+        (Step::Move(2, 3, 0), Err(Some(7))),
+        (Step::Move(2, 2, 0), Err(Some(7))),
+        (Step::Move(2, 3, 9), Err(Some(7))),
+        (Step::Move(3, 1, 5), Err(Some(8))),
+        (Step::Move(1, 2, 0), Err(Some(5))),
+        (Step::Move(2, 0, 0), Err(Some(5))),
+        (Step::Move(1, 0, 0), Err(Some(5))),
+        (Step::Move(9, 0, 0), Err(Some(4))),
+        (Step::Move(1, 9, 0), Err(Some(4))),
+        (Step::Add(0, 0), Err(Some(5))),
+        (Step::Remove(9999), Err(Some(4))),
+    ] {
+        assert_eq!(rt;
+            answer_to(&rt, alloc, &mut page, step)?,
+            expected,
+            "{step:?}"
+        );
+    }
+    for parent in 3..256u32 {
+        assert_eq!(rt;
+            answer_to(&rt, alloc, &mut page, Step::AddBare(parent))?,
+            Ok(parent + 1)
+        );
+    }
+    assert_eq!(rt;
+        answer_to(&rt, alloc, &mut page, Step::AddBare(256))?,
+        Err(Some(9))
+    );
+    assert_eq!(rt;
+        answer_to(&rt, alloc, &mut page, Step::Move(3, 1, 0))?,
+        Ok(0)
+    );
+    assert!(rt; page.has(1));
+    let children = children_with::<Brand>(alloc, &page, 1, Blank::new(1))?;
+    assert_eq!(rt; children.as_slice(), [3, 2].as_slice());
+    assert!(rt; page.has(256));
+    assert_eq!(rt; seat_with::<Brand>(&page, 256, Blank::new(1)), (255, 255));
+    assert_eq!(rt;
+        answer_to(&rt, alloc, &mut page, Step::AddBare(256))?,
+        Ok(257)
+    );
+    Ok(())
+}
+
+#[test]
+fn a_move_takes_the_node_and_all_below_it(rt: HostRuntime) -> Result<(), Fail> {
+    let alloc = rt.alloc();
+    let mut page = Page::new(alloc, 81_920, 46_080);
+    for (step, expected, id, seat, children) in [
+        (Step::Add(0, 0), Ok(1), 1, (0, 1), [].as_slice()),
+        (Step::Add(1, 0), Ok(2), 2, (1, 2), [].as_slice()),
+        (Step::Add(2, 0), Ok(3), 3, (2, 3), [].as_slice()),
+        (Step::Add(3, 0), Ok(4), 4, (3, 4), [].as_slice()),
+        (Step::Add(4, 0), Ok(5), 5, (4, 5), [].as_slice()),
+        (Step::Move(3, 1, 0), Ok(0), 1, (0, 1), [3, 2].as_slice()),
+        (Step::Move(3, 1, 1), Ok(0), 1, (0, 1), [2, 3].as_slice()),
+        (Step::Move(3, 1, 1), Ok(0), 3, (1, 2), [4].as_slice()),
+        (Step::Move(3, 1, 1), Ok(0), 2, (1, 2), [].as_slice()),
+        (Step::Move(3, 1, 1), Ok(0), 5, (4, 4), [].as_slice()),
+        (Step::Move(4, 1, 2), Ok(0), 4, (1, 2), [5].as_slice()),
+        (Step::Move(4, 1, 0), Ok(0), 1, (0, 1), [4, 2, 3].as_slice()),
+        (Step::Move(2, 5, 0), Ok(0), 2, (5, 4), [].as_slice()),
+        (Step::Move(4, 3, 0), Ok(0), 2, (5, 5), [].as_slice()),
+        (Step::Move(4, 3, 0), Ok(0), 1, (0, 1), [3].as_slice()),
+    ] {
+        assert_eq!(rt;
+            answer_to(&rt, alloc, &mut page, step)?,
+            expected,
+            "{step:?}"
+        );
+        assert!(rt; page.has(id));
+        assert_eq!(rt;
+            seat_with::<Brand>(&page, id, Blank::new(1)),
+            seat,
+            "{step:?}"
+        );
+        let now = children_with::<Brand>(alloc, &page, id, Blank::new(1))?;
+        assert_eq!(rt; now.as_slice(), children, "after {step:?}");
+    }
+    Ok(())
+}
+
+#[test]
+fn a_moved_tree_may_reach_the_greatest_depth(rt: HostRuntime) -> Result<(), Fail> {
+    let alloc = rt.alloc();
+    let mut page = Page::new(alloc, 81_920, 46_080);
+    for depth in 0..255u32 {
+        assert_eq!(rt;
+            answer_to(&rt, alloc, &mut page, Step::Add(depth, 0))?,
+            Ok(depth + 1)
+        );
+    }
+    for (step, expected, depth) in [
+        (Step::Add(1, 1), Ok(256), 2),
+        (Step::Add(256, 0), Ok(257), 2),
+        (Step::Move(256, 255, 0), Err(Some(9)), 2),
+        (Step::Move(256, 254, 0), Ok(0), 255),
+        (Step::Add(257, 0), Err(Some(9)), 255),
+        (Step::Move(257, 255, 0), Ok(0), 255),
+        (Step::Move(256, 255, 0), Ok(0), 256),
+        (Step::Move(2, 1, 0), Ok(0), 256),
+        (Step::Move(256, 1, 0), Ok(0), 2),
+    ] {
+        assert_eq!(rt;
+            answer_to(&rt, alloc, &mut page, step)?,
+            expected,
+            "{step:?}"
+        );
+        assert!(rt; page.has(256));
+        assert_eq!(rt;
+            seat_with::<Brand>(&page, 256, Blank::new(1)).1,
+            depth,
+            "after {step:?}"
+        );
     }
     Ok(())
 }

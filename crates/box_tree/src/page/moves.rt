@@ -1,0 +1,254 @@
+// A move: its faults, its plan, and carrying it out.
+ghost use Rattle.std.specs.Prelude.{◌≡◌, ◌≢◌, ◌+◌, ◌≤◌, ◌||◌, ◌==◌, not, true, nat_lt, length, map, None, Some, IfOk, IfErr, IsSome};
+ghost use Rattle.std.specs.List.Sorted.{IsNonDecreasing};
+ghost use Rattle.box_tree.specs.declared.edit.Edit.TheVariants.{Move};
+ghost use Rattle.box_tree.specs.declared.plan.Plan.TheVariants.{MoveNodes};
+ghost use Rattle.box_tree.specs.Contents.{tree_of, has_id, node_of, IsValid};
+ghost use Rattle.box_tree.specs.Edited.{first_fault, edited, answer_of, ancestors_below, child_count, page_without, is_root};
+ghost use Rattle.box_tree.specs.Forest.{height_of, occurrences};
+ghost use Rattle.box_tree.specs.Planned.{children_without, relocated, relocated_among, AreIdsOfTree, IsPlaceFor, IsPlanned};
+
+use super::Page;
+use super::adds::{LEVELS, give_children, seat_below};
+use super::removes::{ids_of_tree, siblings_without};
+use crate::edit::{Done, Edit, EditFault};
+use crate::node::{IdList, Node};
+use crate::plan::{Plan, Relocation};
+use std::snapshot::Snapshot;
+
+impl Page {
+    // The plan of a move, with all its memory.
+    pub(super) fn plan_move(&self, id: u32, parent: u32, at: u32) -> Result<Plan, EditFault>
+        ensures planned { IfOk result (λ plan. IsPlanned plan (Move id parent at) self.now) }
+        ensures first_fault { IfErr result (λ why. why ≢ EditFault.OutOfMemory → first_fault self.now.contents (Move id parent at) ≡ Some why) }
+    {
+        let alloc = *self.nodes.allocator();
+        let ids = ids_of_tree(alloc, self, id)?;
+        let others = siblings_without(alloc, self.find(parent), id)?;
+        if let Some(fault) = self.fault_of_move(id, parent, at, &ids, &others) {
+            return Err(fault);
+        }
+        self.plan_of_move(id, parent, at, ids, &others)
+    }
+
+    // The first fault of a move, by the ids of the moved tree and the other children of the new parent.
+    fn fault_of_move(
+        &self,
+        id: u32,
+        parent: u32,
+        at: u32,
+        ids: &IdList,
+        others: &IdList,
+    ) -> Option<EditFault>
+        requires ids { AreIdsOfTree self.now.contents id ids.now }
+        requires others { others.now ≡ children_without self.now.contents parent id }
+        ensures { result ≡ first_fault self.now.contents (Move id parent at) }
+    {
+        if self.lacks(id, parent) {
+            return Some(EditFault::Absent);
+        }
+        if self.involves_root(id, parent) {
+            return Some(EditFault::Root);
+        }
+        if self.goes_below_itself(id, parent, ids) {
+            return Some(EditFault::Cycle);
+        }
+        if self.is_beyond(id, parent, at, others) {
+            return Some(EditFault::Place);
+        }
+        if self.is_too_deep(id, parent) {
+            return Some(EditFault::Deep);
+        }
+        None
+    }
+
+    // Whether the new parent is in the moved tree, which has these ids.
+    fn goes_below_itself(&self, id: u32, parent: u32, ids: &IdList) -> bool
+        requires { AreIdsOfTree self.now.contents id ids.now }
+        ensures { result ≡ nat_lt 0 (occurrences (tree_of self.now.contents id) parent) }
+    {
+        ids.contains(parent)
+    }
+
+    // Whether the place is above the number of the other children of the new parent, which has these.
+    fn is_beyond(&self, id: u32, parent: u32, at: u32, others: &IdList) -> bool
+        requires others { others.now ≡ children_without self.now.contents parent id }
+        requires there { has_id self.now.contents parent ≡ true }
+        requires apart { occurrences (tree_of self.now.contents id) parent ≡ 0 }
+        ensures { result ≡ nat_lt (child_count (page_without self.now.contents id) parent) at }
+    {
+        self.validity();
+        others.as_slice().len() < at as usize
+    }
+
+    // Whether a node of the moved tree would be too deep below the new parent.
+    fn is_too_deep(&self, id: u32, parent: u32) -> bool
+        ensures { result ≡ nat_lt 256 (length (ancestors_below self.now.contents parent) + height_of (tree_of self.now.contents id)) }
+    {
+        let depth = seat_below(self.find(parent)).depth;
+        depth > LEVELS - self.levels_of(id)
+    }
+
+    // Whether the node or the new parent is not in the page.
+    fn lacks(&self, id: u32, parent: u32) -> bool
+        ensures { result ≡ (not (has_id self.now.contents id) || not (parent == 0 || has_id self.now.contents parent)) }
+    {
+        !self.has(id) || !(parent == 0 || self.has(parent))
+    }
+
+    // Whether the root is moved, or a node would become one.
+    fn involves_root(&self, id: u32, parent: u32) -> bool
+        ensures { result ≡ (parent == 0 || is_root self.now.contents id) }
+    {
+        parent == 0 || self.has_root(id)
+    }
+
+    // Whether the node is the root.
+    fn has_root(&self, id: u32) -> bool
+        ensures { result ≡ is_root self.now.contents id }
+    {
+        match self.root() {
+            Some(root) => root == id,
+            None => false,
+        }
+    }
+
+    // How many levels the tree of a node has.
+    fn levels_of(&self, id: u32) -> u32
+        ensures levels { result ≡ height_of (tree_of self.now.contents id) }
+        ensures most { result ≤ 256 }
+    {
+        self.validity();
+        levels(self, id)
+    }
+
+    // The plan of a move without a fault.
+    fn plan_of_move(
+        &self,
+        id: u32,
+        parent: u32,
+        at: u32,
+        ids: IdList,
+        others: &IdList,
+    ) -> Result<Plan, EditFault>
+        requires ids { AreIdsOfTree self.now.contents id ids }
+        requires others { others.now ≡ children_without self.now.contents parent id }
+        requires faultless { first_fault self.now.contents (Move id parent at) ≡ None }
+        ensures planned { IfOk result (λ plan. IsPlanned plan (Move id parent at) self.now) }
+        ensures memory { IfErr result (λ why. why ≡ EditFault.OutOfMemory) }
+    {
+        self.validity();
+        let alloc = *self.nodes.allocator();
+        let place = self.place_in(id, parent);
+        let siblings = siblings_without(alloc, self.find(place.from), id)?;
+        let children = others.with(alloc, at as usize, id)?;
+        Ok(Plan::MoveNodes {
+            place,
+            siblings,
+            children,
+            ids,
+        })
+    }
+
+    // Where a node of the page goes.
+    fn place_in(&self, id: u32, parent: u32) -> Relocation
+        requires valid { IsValid self.now.contents }
+        requires there { IsSome (node_of self.now.contents id) }
+        ensures { IsPlaceFor self.now.contents id parent result }
+    {
+        match self.find(id) {
+            Some(node) => Relocation {
+                id,
+                from: node.parent,
+                parent,
+                old_depth: node.depth,
+                depth: seat_below(self.find(parent)).depth + 1,
+            },
+            None => unreachable!(),
+        }
+    }
+
+    // Carries out a planned move.
+    pub(super) fn relocate(
+        &mut self,
+        place: Relocation,
+        siblings: IdList,
+        children: IdList,
+        ids: IdList,
+        edit: &Snapshot<Edit>,
+    ) -> Done
+        requires { IsPlanned (MoveNodes place siblings children ids) edit.now.value self.old }
+        ensures contents { self.new.contents ≡ edited self.old.contents edit.now.value }
+        ensures answer { result ≡ answer_of self.old.contents edit.now.value }
+    {
+        self.relocate_nodes(place, siblings, children, &ids, edit);
+        Done::Done
+    }
+
+    // The same, with the ids lent.
+    fn relocate_nodes(
+        &mut self,
+        place: Relocation,
+        siblings: IdList,
+        children: IdList,
+        ids: &IdList,
+        edit: &Snapshot<Edit>,
+    )
+        requires { IsPlanned (MoveNodes place siblings children ids.now) edit.now.value self.old }
+        ensures { self.new.contents ≡ edited self.old.contents edit.now.value }
+    {
+        give_children(&mut self.nodes, place.from, siblings);
+        give_children(&mut self.nodes, place.parent, children);
+        relocate_all(&mut self.nodes, place, ids);
+    }
+}
+
+// How many levels the tree of a node has.
+fn levels(page: &Page, id: u32) -> u32
+    requires { IsValid page.now.contents }
+    ensures levels { result ≡ height_of (tree_of page.now.contents id) }
+    ensures most { result ≤ 256 }
+{
+    let Some(node) = page.find(id) else {
+        return 0;
+    };
+    let mut below: u32 = 0;
+    for child in node.children.as_slice() {
+        let deep = levels(page, *child);
+        below = below.max(deep);
+    }
+    below + 1
+}
+
+// Each node of the moved tree gets its new depth, and the moved node its new parent.
+fn relocate_all(nodes: &mut Vec<Node>, place: Relocation, ids: &IdList)
+    requires { IsNonDecreasing ids.now }
+    ensures { nodes.new.items ≡ map (relocated_among place ids.now) nodes.old.items }
+{
+    for node in nodes.iter_mut() {
+        relocate_among(node, place, ids);
+    }
+}
+
+// A node gets its new depth and its new parent where it is one of the moved nodes.
+fn relocate_among(node: &mut Node, place: Relocation, ids: &IdList)
+    requires { IsNonDecreasing ids.now }
+    ensures { node.new ≡ relocated_among place ids.now node.old }
+{
+    if ids.contains(node.id) {
+        relocate_node(node, place);
+    }
+}
+
+// A moved node gets its new depth, and the one that the move names its new parent.
+fn relocate_node(node: &mut Node, place: Relocation)
+    ensures { node.new ≡ relocated place node.old }
+{
+    node.depth = node
+        .depth
+        .saturating_sub(place.old_depth)
+        .saturating_add(place.depth);
+    if node.id == place.id {
+        node.parent = place.parent;
+    }
+}
