@@ -1,6 +1,6 @@
 -- A page with a node moved, and all below it: what no fault means, that it is valid, and that it is what the nodes mean
 -- once they are relocated.
-use Rattle.std.proofs.Common.{◌≡◌, ◌≢◌, ◌⊎◌, ℕ, suc, ◌+◌, ◌-◌, ◌^◌, ◌<◌, ◌≤◌, ◌==◌, min, List, [], ◌∷◌, ◌++◌, length, map, set, slice_get, Option, Some, None, IsSome, is_some, true, false, Bool, not, if◌then◌else◌, refl, sym, ap, ◌∙◌, subst, inl, inr, arith, length-append}
+use Rattle.std.proofs.Common.{◌≡◌, ◌≢◌, ℕ, ◌+◌, ◌-◌, ◌<◌, ◌≤◌, ◌==◌, List, [], ◌∷◌, ◌++◌, length, map, set, slice_get, Option, Some, None, IsSome, is_some, true, false, Bool, not, if◌then◌else◌, refl, sym, ap, ◌∙◌, subst, inl, inr, arith, length-append}
 use Rattle.std.specs.Prelude.{nat_lt, ◌||◌}
 use Rattle.std.specs.Option.{option_or, option_map, option_map_or}
 use Rattle.std.specs.List.{insert}
@@ -16,16 +16,16 @@ use Rattle.box_tree.specs.Contents.{Contents, node_at, node_of, placed_of, tree_
 use Rattle.box_tree.specs.Edited.{taken_out, put_below, moved, page_without, is_root, ancestors_below, child_count, first_fault, faults_of}
 use Rattle.box_tree.specs.Kept.{node_with, IsRisingFrom, IsKept}
 use Rattle.box_tree.specs.PageState.{PageState}
-use Rattle.box_tree.specs.Planned.{ids_without, is_among, children_without, relocated, relocated_among, IsPlaceFor, IsMovePlan, IsPlanned}
-use Rattle.box_tree.proofs.ForestLemmas.{single, placed_in-head, placed_in-present, node_in, with_child, ancestors_in, children_in, map-or, or-none, node_in-cons, node_in-absent, node_in-put_below, occurrences-put_below, roots-put_below, node_count-put_below}
+use Rattle.box_tree.specs.Planned.{ids_without, is_among, children_without, relocated, relocated_among, IsPlaceFor, IsPlanned}
+use Rattle.box_tree.proofs.ForestLemmas.{single, placed_in-head, placed_in-present, node_in, with_child, ancestors_in, map-or, or-none, node_in-cons, node_in-absent, node_in-put_below, occurrences-put_below, roots-put_below, node_count-put_below}
 use Rattle.box_tree.proofs.PutLemmas.{each-put_below, height-put_below}
 use Rattle.box_tree.proofs.KeptLemmas.{node_with-slice, node_with-replaced, rising-set, other_child}
 use Rattle.box_tree.proofs.AddLemmas.{none_holds, once_there}
-use Rattle.box_tree.proofs.PlacedLemmas.{page-at_places, found-at_places, AreAtPlaces, depth-placed_in, IsSeenAt, seen_at}
+use Rattle.box_tree.proofs.PlacedLemmas.{page-at_places, found-at_places, AreAtPlaces, depth-placed_in, seen_at}
 use Rattle.box_tree.proofs.PlanLemmas.{MeansEdited, means_edited, id-placed_in, is_some-node_at}
-use Rattle.box_tree.proofs.SubtreeLemmas.{Found, Head, Deeper, Beside, found_in, IsAbove, parent_above, placed-at_places}
-use Rattle.box_tree.proofs.TakenLemmas.{occurrences-taken_out, height-taken_out, each-taken_out, roots-taken_out, length-ids_without, place_without, placed_in-taken_out, occurrences-parted, node_count-parted, tree_in}
-use Rattle.box_tree.proofs.RemoveLemmas.{node_without, other_node, IsPlacedBelow, placed_below}
+use Rattle.box_tree.proofs.SubtreeLemmas.{Head, Deeper, Beside, found_in, IsAbove, parent_above, placed-at_places}
+use Rattle.box_tree.proofs.TakenLemmas.{height-taken_out, each-taken_out, roots-taken_out, length-ids_without, place_without, placed_in-taken_out, occurrences-parted, node_count-parted}
+use Rattle.box_tree.proofs.RemoveLemmas.{node_without, other_node, placed_below}
 use Rattle.box_tree.proofs.CountLemmas.{count-looked_up}
 use mathlib.Core.Bool.{false≢true}
 

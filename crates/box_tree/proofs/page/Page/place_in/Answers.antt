@@ -1,5 +1,5 @@
 -- No node is deeper than 256.
-use Rattle.std.proofs.Common.{ap, ◌∙◌, sym, subst, arith}
+use Rattle.std.proofs.Common.{ap, ◌∙◌, sym, arith}
 use Rattle.std.specs.Option.{option_map_or}
 use Rattle.box_tree.specs.declared.node.Node.{Node}
 use Rattle.box_tree.proofs.PlanLemmas.{length-ancestors_below}

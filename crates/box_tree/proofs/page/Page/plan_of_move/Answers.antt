@@ -1,5 +1,5 @@
 -- The place is at most the number of the others.
-use Rattle.std.proofs.Common.{ap, ◌∙◌, sym, ℕ, List, length, arith}
+use Rattle.std.proofs.Common.{ap, ℕ, List, length, arith}
 use Rattle.box_tree.proofs.MoveLemmas.{length-others, may_move}
 use Rattle.box_tree.proofs.page.Page.plan_of_move.Goals as goal
 

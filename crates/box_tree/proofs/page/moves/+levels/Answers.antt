@@ -1,5 +1,5 @@
 -- The levels of the trees below the node, one tree after another, and one for the node itself.
-use Rattle.std.proofs.Common.{◌≡◌, ◌<◌, ◌≤◌, ℕ, List, length, sym, ap, ◌∙◌, subst, arith, get_or}
+use Rattle.std.proofs.Common.{◌≡◌, ◌<◌, ◌≤◌, ℕ, List, length, sym, ap, subst, arith, get_or}
 use Rattle.box_tree.proofs.SubtreeLemmas.{levels-whole, levels-step, levels-end, height-tree_of, ancestor_count-child, few_ancestors}
 use Rattle.box_tree.proofs.page.moves.+levels.Goals as goal
 
