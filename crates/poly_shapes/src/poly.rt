@@ -2,7 +2,8 @@ ghost use Rattle.std.specs.Prelude.{◌≡◌, ◌↔◌, ◌^◌, ◌≤◌, un
 ghost use Rattle.std.specs.List.{All};
 ghost use Rattle.poly_shapes.specs.Segments.{IsPlaced};
 ghost use Rattle.poly_shapes.specs.Outline.{Outline, AreTiled, IsMeasured, edges};
-ghost use Rattle.poly_shapes.specs.Extent.{bounds_of};
+ghost use Rattle.poly_shapes.specs.Extent.{bounds_of, Holds, LiesIn};
+ghost use Rattle.poly_shapes.specs.declared.point.Bounds.{Bounds};
 ghost use Rattle.poly_shapes.specs.Fill.{winding, crossings, Fills};
 ghost use Rattle.poly_shapes.specs.Stroke.{strokes};
 
@@ -72,6 +73,8 @@ impl Poly {
     pub fn bounds(&self) -> Option<Bounds>
         ensures value { result ≡ bounds_of self.now.points }
         ensures absent { IsNone result ↔ (self.now.points ≡ []) }
+        ensures holds { IfSome result (λ b. All (λ p. Holds b p.x p.y) self.now.points) }
+        ensures least { IfSome result (λ b. (outer : Bounds) → All (λ p. Holds outer p.x p.y) self.now.points → LiesIn b outer) }
     {
         self.bounds
     }
