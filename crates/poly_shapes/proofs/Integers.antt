@@ -18,16 +18,16 @@ sub-mul a b c =
     let parts = rw whole at (add-mul (a -ℤ b) b c) in
     omega (arith, ints)
 
-pub mul-sub : (a b c : ℤ) → a *ℤ (b -ℤ c) ≡ a *ℤ b -ℤ a *ℤ c
+mul-sub : (a b c : ℤ) → a *ℤ (b -ℤ c) ≡ a *ℤ b -ℤ a *ℤ c
 mul-sub a b c = *ℤ_comm a (b -ℤ c) ∙ sub-mul b c a ∙ rw (*ℤ_comm b a, *ℤ_comm c a) refl
 
 pub differences-mul : (p q r s : ℤ) → (p -ℤ q) *ℤ (r -ℤ s) ≡ (p *ℤ r -ℤ p *ℤ s) -ℤ (q *ℤ r -ℤ q *ℤ s)
 differences-mul p q r s = sub-mul p q (r -ℤ s) ∙ rw (mul-sub p r s, mul-sub q r s) refl
 
--- products by a positive number keep the order
-pub le-mul : (p q w : ℤ) → pos 0 <ℤ w → p ≤ℤ q → (p *ℤ w) ≤ℤ (q *ℤ w)
-le-mul p q (pos w) positive h = omega (arith, ints, mul-le-mul_right w (le_out p q h))
-le-mul p q (negsuc w) positive h = absurd (omega (arith, ints))
+-- products by a number that isn't below 0 keep the order, and by a positive one the strict order
+pub le-mul : (p q w : ℤ) → pos 0 ≤ℤ w → p ≤ℤ q → (p *ℤ w) ≤ℤ (q *ℤ w)
+le-mul p q (pos w) not_below h = omega (arith, ints, mul-le-mul_right w (le_out p q h))
+le-mul p q (negsuc w) not_below h = absurd (omega (arith, ints))
 
 pub lt-mul : (p q w : ℤ) → pos 0 <ℤ w → p <ℤ q → (p *ℤ w) <ℤ (q *ℤ w)
 lt-mul p q (pos zero) positive h = absurd (omega (arith, ints))
@@ -38,11 +38,9 @@ lt-mul p q (negsuc w) positive h = absurd (omega (arith, ints))
 pub mul-above : (z d : ℤ) → pos 0 <ℤ d → pos 0 <ℤ z → pos 0 <ℤ (z *ℤ d)
 mul-above z d p q = rw (zero-*ℤ d) at (lt-mul (pos 0) z d p q)
 
-pub mul-below : (z d : ℤ) → pos 0 <ℤ d → z <ℤ pos 0 → (z *ℤ d) <ℤ pos 0
-mul-below z d p q = rw (zero-*ℤ d) at (lt-mul z (pos 0) d p q)
-
 pub mul-not_above : (z d : ℤ) → pos 0 <ℤ d → z ≤ℤ pos 0 → (z *ℤ d) ≤ℤ pos 0
-mul-not_above z d p q = rw (zero-*ℤ d) at (le-mul z (pos 0) d p q)
+mul-not_above z d p q = rw (zero-*ℤ d) at (le-mul z (pos 0) d (omega (arith, ints)) q)
 
-pub mul-not_below : (z d : ℤ) → pos 0 <ℤ d → pos 0 ≤ℤ z → pos 0 ≤ℤ (z *ℤ d)
-mul-not_below z d p q = rw (zero-*ℤ d) at (le-mul (pos 0) z d p q)
+-- a difference the other way round
+pub neg_difference-mul : (a b c : ℤ) → (a -ℤ b) *ℤ c ≡ pos 0 -ℤ (b -ℤ a) *ℤ c
+neg_difference-mul a b c = let there = sub-mul a b c in let back = sub-mul b a c in omega (arith, ints)

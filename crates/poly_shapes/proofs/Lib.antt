@@ -5,4 +5,6 @@ pub mod ExtentLemmas
 pub mod StrokeLemmas
 pub mod Integers
 pub mod TurnedLemmas
+pub mod CrossingLemmas
 pub mod RectangleLemmas
+pub mod OutsideLemmas

@@ -1,49 +1,24 @@
 -- The winding of a rectangle's four edges.
-use Rattle.std.proofs.Common.{◌≡◌, ◌≢◌, ℤ, pos, negsuc, ◌-ℤ◌, ◌*ℤ◌, ◌<ℤ◌, ◌≤ℤ◌, ◌↔◌, int_lt, int_le, Bool, true, false, ◌&&◌, arith, refl, ◌∙◌}
+use Rattle.std.proofs.Common.{◌≡◌, ◌≢◌, ℤ, pos, negsuc, ◌-ℤ◌, ◌*ℤ◌, ◌<ℤ◌, ◌≤ℤ◌, ◌↔◌, arith, refl, ◌∙◌}
 use Rattle.std.proofs.lemmas.Int.{ints, by_lt_z}
 use Rattle.std.proofs.Math.IntN.{zero-*ℤ}
 use Rattle.poly_shapes.specs.declared.segment.Segment.{Segment}
 use Rattle.poly_shapes.specs.declared.point.FillRule.TheVariants.{NonZero}
 use Rattle.poly_shapes.specs.Segments.{across}
 use Rattle.poly_shapes.specs.Outline.{edges}
-use Rattle.poly_shapes.specs.Fill.{goes_down, crosses_down, crosses_up, edge_winding, winding, Fills}
+use Rattle.poly_shapes.specs.Fill.{goes_down, edge_winding, winding, Fills}
 use Rattle.poly_shapes.specs.Rectangle.{point, rectangle, IsInRectangle}
 use Rattle.poly_shapes.proofs.Integers.{sub-mul, mul-above, mul-not_above}
+use Rattle.poly_shapes.proofs.CrossingLemmas.{lt-true, lt-false, le-true, le-false, and_not, winding-not_crossed, not_crossed-above, not_crossed-below}
 use Rattle.poly_shapes.proofs.TurnedLemmas.{edge_winding-turned}
 
 abbrev edge : (ax ay bx by : ℤ) → Segment
 edge ax ay bx by = record { from = point ax ay; to = point bx by }
 
--- the tests of two numbers
-lt-true : (a b : ℤ) → a <ℤ b → int_lt a b ≡ true
-lt-true a b h = grind (arith, ints)
-
-lt-false : (a b : ℤ) → b ≤ℤ a → int_lt a b ≡ false
-lt-false a b h = grind (arith, ints)
-
-le-true : (a b : ℤ) → a ≤ℤ b → int_le a b ≡ true
-le-true a b h = grind (arith, ints)
-
-le-false : (a b : ℤ) → b <ℤ a → int_le a b ≡ false
-le-false a b h = grind (arith, ints)
-
-and_not : (a b : Bool) → b ≡ false → a && b ≡ false
-and_not true b e = e
-and_not false b e = refl
-
-and_not_and : (a b c : Bool) → b ≡ false → (a && b) && c ≡ false
-and_not_and a b c e = rw (and_not a b e) refl
-
--- an edge that crosses neither way doesn't count
-neither : (e : Segment) (x y : ℤ) → crosses_down e x y ≡ false → crosses_up e x y ≡ false → edge_winding e x y ≡ pos 0
-neither e x y not_down not_up = rw (not_down, not_up) refl
-
 -- a level edge is not crossed
 winding-level : (a b t x y : ℤ) → edge_winding (edge a t b t) x y ≡ pos 0
-winding-level a b t x y = by_lt_z y t
-    (λ above. rw (le-false t y above) refl)
-    (λ below. neither (edge a t b t) x y
-    (and_not_and (int_le t y) (int_lt y t) _ (lt-false y t below)) (and_not_and (int_le t y) (int_lt y t) _ (lt-false y t below)))
+winding-level a b t x y = winding-not_crossed (edge a t b t) x y
+    (by_lt_z y t (λ h. not_crossed-above (edge a t b t) x y h h) (λ h. not_crossed-below (edge a t b t) x y h h))
 
 -- an upright edge at the place a, by the point's place to its left or right
 across-upright : (a t b x y : ℤ) → across (edge a t a b) x y ≡ (a -ℤ x) *ℤ (b -ℤ t)
@@ -65,8 +40,10 @@ down-right : (a t b x y : ℤ) → t ≤ℤ y → y <ℤ b → a ≤ℤ x → ed
 down-right a t b x y p q h =
     let k : across (edge a t a b) x y ≤ℤ pos 0 =
     rw (across-upright a t b x y) (mul-not_above (a -ℤ x) (b -ℤ t) (omega (arith, ints)) (omega (arith, ints))) in
-    neither (edge a t a b) x y
-    (and_not (goes_down (edge a t a b) y) _ (lt-false (pos 0) (across (edge a t a b) x y) k)) (rw (le-false b y q) refl)
+    winding-not_crossed (edge a t a b) x y (record {
+      down = and_not (goes_down (edge a t a b) y) _ (lt-false (pos 0) (across (edge a t a b) x y) k);
+      up = rw (le-false b y q) refl;
+    })
 
 -- the edge goes up past the point
 up-left : (a t b x y : ℤ) → t ≤ℤ y → y <ℤ b → x <ℤ a → edge_winding (edge a b a t) x y ≡ negsuc 0
@@ -75,13 +52,14 @@ up-left a t b x y p q h = edge_winding-turned (edge a t a b) x y ∙ rw (down-le
 up-right : (a t b x y : ℤ) → t ≤ℤ y → y <ℤ b → a ≤ℤ x → edge_winding (edge a b a t) x y ≡ pos 0
 up-right a t b x y p q h = edge_winding-turned (edge a t a b) x y ∙ rw (down-right a t b x y p q h) refl
 
--- no edge between two heights is crossed by a ray above or below both
+-- both ends above the ray, or both not
 winding-above : (ax ay bx by x y : ℤ) → y <ℤ ay → y <ℤ by → edge_winding (edge ax ay bx by) x y ≡ pos 0
-winding-above ax ay bx by x y p q = rw (le-false ay y p, le-false by y q) refl
+winding-above ax ay bx by x y p q =
+    winding-not_crossed (edge ax ay bx by) x y (not_crossed-above (edge ax ay bx by) x y p q)
 
 winding-below : (ax ay bx by x y : ℤ) → ay ≤ℤ y → by ≤ℤ y → edge_winding (edge ax ay bx by) x y ≡ pos 0
-winding-below ax ay bx by x y p q = neither (edge ax ay bx by) x y
-    (and_not_and (int_le ay y) (int_lt y by) _ (lt-false y by q)) (and_not_and (int_le by y) (int_lt y ay) _ (lt-false y ay p))
+winding-below ax ay bx by x y p q =
+    winding-not_crossed (edge ax ay bx by) x y (not_crossed-below (edge ax ay bx by) x y p q)
 
 -- the four edges together
 abbrev whole : (l t r b x y : ℤ) → ℤ

@@ -27,14 +27,14 @@ above-neg k = grind (arith, ints)
 below-neg : (k : ℤ) → int_lt (neg_ℤ k) (pos 0) ≡ int_lt (pos 0) k
 below-neg k = grind (arith, ints)
 
-crosses_down-turned : (e : Segment) (x y : ℤ) → crosses_down (turned e) x y ≡ crosses_up e x y
+pub crosses_down-turned : (e : Segment) (x y : ℤ) → crosses_down (turned e) x y ≡ crosses_up e x y
 crosses_down-turned e x y = rw (across-turned e x y, above-neg (across e x y)) refl
 
 crosses_up-turned : (e : Segment) (x y : ℤ) → crosses_up (turned e) x y ≡ crosses_down e x y
 crosses_up-turned e x y = rw (across-turned e x y, below-neg (across e x y)) refl
 
 -- no edge crosses both ways
-not_both : (a b y : ℤ) (p q : Bool) → (int_le a y && int_lt y b) && p ≡ true → (int_le b y && int_lt y a) && q ≡ false
+pub not_both : (a b y : ℤ) (p q : Bool) → (int_le a y && int_lt y b) && p ≡ true → (int_le b y && int_lt y a) && q ≡ false
 not_both a b y p q h = grind (arith, ints)
 
 winding_of-turned : (down up : Bool) → (down ≡ true → up ≡ false)
@@ -87,7 +87,7 @@ total-turned f g same a b (p ∷ points) =
     let unrolled = reverse-cons p points in
     ap (λ (ps : List Point). total f (path_from b (ps ++ a ∷ []))) unrolled ∙ omega (arith, ints)
 
-last_point-cons : (q p : Point) (points : List Point) → last_point (q ∷ p ∷ points) ≡ last_point (p ∷ points)
+pub last_point-cons : (q p : Point) (points : List Point) → last_point (q ∷ p ∷ points) ≡ last_point (p ∷ points)
 last_point-cons q p points =
     let here : length (q ∷ p ∷ points) - 1 ≡ suc (length points) = omega arith in
     let there : length (p ∷ points) - 1 ≡ length points = omega arith in
