@@ -1,8 +1,12 @@
--- The lesser and the greater of two coordinates, as the code compares them on 64 bits.
-use Rattle.std.proofs.Common.{◌≡◌, ℤ, arith, FitsSigned, w64, ap, ◌∙◌}
+-- The bounds of points: the lesser and the greater of two coordinates, as the code compares them on 64 bits, and that the
+-- bounds are the least rectangle that holds the points.
+use Rattle.std.proofs.Common.{◌≡◌, zero, suc, ℤ, List, [], ◌∷◌, fold, IfSome, arith, FitsSigned, w64}
+use Rattle.std.specs.List.{All}
 use Rattle.std.specs.Int.{int_min, int_max}
-use Rattle.std.proofs.lemmas.Int.{ints, to_z-of_z}
+use Rattle.std.proofs.lemmas.Int.{ints, clamps, to_z-of_z}
 use Rattle.poly_shapes.specs.declared.point.Bounds.{Bounds}
+use Rattle.poly_shapes.specs.declared.point.Point.{Point}
+use Rattle.poly_shapes.specs.Extent.{around, widened, bounds_of, Holds, LiesIn}
 use Rattle.poly_shapes.proofs.Widths.{read}
 
 pub int_min-read : (a b r : ℤ) → FitsSigned w64 a → FitsSigned w64 b → FitsSigned w64 r
@@ -18,3 +22,100 @@ pub same_bounds : {l l' t t' r r' b b' : ℤ} → l ≡ l' → t ≡ t' → r �
     → (let one : Bounds = record { l = l; t = t; r = r; b = b } in
     let other : Bounds = record { l = l'; t = t'; r = r'; b = b' } in one ≡ other)
 same_bounds e f g h = cc
+
+-- ---- the bounds are the least rectangle that holds the points
+
+lies_in-same : (b : Bounds) → LiesIn b b
+lies_in-same b = record {
+  left = omega (arith, ints);
+  right = omega (arith, ints);
+  top = omega (arith, ints);
+  bottom = omega (arith, ints);
+}
+
+lies_in-widened : (b : Bounds) (p : Point) → LiesIn b (widened b p)
+lies_in-widened b p = record {
+  left = omega (arith, ints, clamps);
+  right = omega (arith, ints, clamps);
+  top = omega (arith, ints, clamps);
+  bottom = omega (arith, ints, clamps);
+}
+
+holds-widened : (b : Bounds) (p : Point) → Holds (widened b p) p.x p.y
+holds-widened b p = record {
+  left = omega (arith, ints, clamps);
+  right = omega (arith, ints, clamps);
+  top = omega (arith, ints, clamps);
+  bottom = omega (arith, ints, clamps);
+}
+
+widened-lies_in : (b outer : Bounds) (p : Point) → LiesIn b outer → Holds outer p.x p.y → LiesIn (widened b p) outer
+widened-lies_in b outer p within held = record {
+  left = omega (arith, ints, clamps);
+  right = omega (arith, ints, clamps);
+  top = omega (arith, ints, clamps);
+  bottom = omega (arith, ints, clamps);
+}
+
+lies_in-trans : (a b c : Bounds) → LiesIn a b → LiesIn b c → LiesIn a c
+lies_in-trans a b c p q = record {
+  left = omega (arith, ints);
+  right = omega (arith, ints);
+  top = omega (arith, ints);
+  bottom = omega (arith, ints);
+}
+
+holds-within : (a b : Bounds) (x y : ℤ) → Holds a x y → LiesIn a b → Holds b x y
+holds-within a b x y held within = record {
+  left = omega (arith, ints);
+  right = omega (arith, ints);
+  top = omega (arith, ints);
+  bottom = omega (arith, ints);
+}
+
+grows : (b : Bounds) (points : List Point) → LiesIn b (fold widened b points)
+grows b [] = lies_in-same b
+grows b (p ∷ points) =
+    lies_in-trans b (widened b p) (fold widened (widened b p) points) (lies_in-widened b p) (grows (widened b p) points)
+
+abbrev pub HoldsPoint : Bounds → Point → Type 0
+HoldsPoint b p = Holds b p.x p.y
+
+holds-each : (b : Bounds) (points : List Point) → All (HoldsPoint (fold widened b points)) points
+holds-each b [] k d h = absurd (omega arith)
+holds-each b (p ∷ points) zero d h =
+    holds-within (widened b p) (fold widened (widened b p) points) p.x p.y (holds-widened b p) (grows (widened b p) points)
+holds-each b (p ∷ points) (suc k) d h = holds-each (widened b p) points k d (omega arith)
+
+is_least : (b outer : Bounds) (points : List Point) → LiesIn b outer → All (HoldsPoint outer) points
+    → LiesIn (fold widened b points) outer
+is_least b outer [] within held = within
+is_least b outer (p ∷ points) within held =
+    is_least (widened b p) outer points
+    (widened-lies_in b outer p within (held 0 p (omega arith)))
+    (λ k d h. held (suc k) d (omega arith))
+
+around-lies_in : (p : Point) (outer : Bounds) → Holds outer p.x p.y → LiesIn (around p) outer
+around-lies_in p outer held = record { left = held.left; right = held.right; top = held.top; bottom = held.bottom }
+
+around-holds : (p : Point) → Holds (around p) p.x p.y
+around-holds p = record {
+  left = omega (arith, ints);
+  right = omega (arith, ints);
+  top = omega (arith, ints);
+  bottom = omega (arith, ints);
+}
+
+pub bounds_of-holds : (points : List Point) → IfSome (bounds_of points) (λ b. All (HoldsPoint b) points)
+bounds_of-holds [] = tt
+bounds_of-holds (p ∷ points) = holds_all
+  where
+    holds_all : All (HoldsPoint (fold widened (around p) points)) (p ∷ points)
+    holds_all zero d h = holds-within (around p) (fold widened (around p) points) p.x p.y (around-holds p) (grows (around p) points)
+    holds_all (suc k) d h = holds-each (around p) points k d (omega arith)
+
+pub bounds_of-least : (points : List Point)
+    → IfSome (bounds_of points) (λ b. (outer : Bounds) → All (HoldsPoint outer) points → LiesIn b outer)
+bounds_of-least [] = tt
+bounds_of-least (p ∷ points) = λ outer held.
+    is_least (around p) outer points (around-lies_in p outer (held 0 p (omega arith))) (λ k d h. held (suc k) d (omega arith))

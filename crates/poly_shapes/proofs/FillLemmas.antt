@@ -3,7 +3,6 @@ use Rattle.std.proofs.Common.{ℕ, ◌≡◌, ◌+◌, ◌^◌, ◌<◌, ◌≤�
 use Rattle.std.proofs.lemmas.Int.{ints}
 use Rattle.std.proofs.lemmas.List.{at_drop_more}
 use Rattle.poly_shapes.specs.declared.point.Point.{Point}
-use Rattle.poly_shapes.specs.declared.segment.Segment.{Segment}
 use Rattle.poly_shapes.specs.Segments.{path_from}
 use Rattle.poly_shapes.specs.Fill.{winding, edge_winding}
 use Rattle.poly_shapes.proofs.Widths.{read}

@@ -3,3 +3,8 @@ pub mod FillLemmas
 pub mod OutlineLemmas
 pub mod ExtentLemmas
 pub mod StrokeLemmas
+pub mod Integers
+pub mod TurnedLemmas
+pub mod CrossingLemmas
+pub mod RectangleLemmas
+pub mod OutsideLemmas

@@ -1,5 +1,5 @@
 -- What the tiling of the points by the subpaths gives.
-use Rattle.std.proofs.Common.{ℕ, zero, suc, ◌≡◌, ◌+◌, ◌-◌, ◌^◌, ◌<◌, ◌≤◌, List, [], ◌∷◌, ◌++◌, ℤ, ◌+ℤ◌, length, drop, take, get_or, arith, refl, ap, ◌∙◌, sym, length-take, length-drop}
+use Rattle.std.proofs.Common.{ℕ, zero, suc, ◌≡◌, ◌+◌, ◌-◌, ◌^◌, ◌<◌, ◌≤◌, List, [], ◌∷◌, ◌++◌, ℤ, ◌+ℤ◌, length, drop, get_or, arith, ◌∙◌, length-take, length-drop}
 use Rattle.std.specs.List.{All}
 use Rattle.std.specs.Prelude.{unsigned_abs}
 use Rattle.poly_shapes.proofs.Widths.{read}
@@ -12,7 +12,7 @@ use Rattle.poly_shapes.specs.declared.point.Sub.{Sub}
 use Rattle.poly_shapes.specs.declared.segment.Segment.{Segment}
 use Rattle.poly_shapes.specs.Segments.{IsPlaced, ring}
 use Rattle.poly_shapes.specs.Outline.{AreTiled, points_of, edges_of}
-use Rattle.poly_shapes.specs.Fill.{winding, crossings, edge_winding, edge_crossings}
+use Rattle.poly_shapes.specs.Fill.{winding, crossings}
 
 -- how many points the subpaths take
 abbrev pub total : List Sub → ℕ

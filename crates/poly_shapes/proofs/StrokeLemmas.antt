@@ -1,10 +1,10 @@
 -- The segments that remain, one step along the points.
-use Rattle.std.proofs.Common.{ℕ, ◌≡◌, ◌+◌, ◌<◌, ℤ, Bool, true, false, cond, ◌&&◌, ◌||◌, List, [], ◌∷◌, length, drop, get_or, map, arith, refl, ap, ◌∙◌, sym}
-use Rattle.std.specs.List.{filter, list_any}
+use Rattle.std.proofs.Common.{ℕ, ◌≡◌, ◌+◌, ◌<◌, ℤ, Bool, true, false, ◌&&◌, ◌||◌, List, ◌∷◌, length, drop, get_or, arith, refl, ◌∙◌}
+use Rattle.std.specs.List.{list_any}
 use Rattle.std.proofs.lemmas.List.{at_drop_more}
 use Rattle.poly_shapes.specs.declared.point.Point.{Point}
 use Rattle.poly_shapes.specs.declared.segment.Segment.{Segment}
-use Rattle.poly_shapes.specs.Stroke.{has_length, lines_from, first_of, last_of, line_holds, body_holds, disc_holds, starts, joins, subpath_holds, strokes_of}
+use Rattle.poly_shapes.specs.Stroke.{has_length, lines_from, line_holds, body_holds, disc_holds, starts, subpath_holds, strokes_of}
 use Rattle.poly_shapes.specs.declared.point.Sub.{Sub}
 use Rattle.poly_shapes.specs.declared.point.Cap.{Cap}
 use Rattle.poly_shapes.specs.Outline.{points_of}

@@ -1,6 +1,6 @@
 -- How wide products and differences get, and what the code computes of them on 64 bits. Widths are bounds on absolute
 -- values.
-use Rattle.std.proofs.Common.{ℕ, to_z, of_z, ◌+◌, ◌*◌, ◌^◌, ◌<◌, ◌≤◌, lit<, ℤ, ◌+ℤ◌, ◌-ℤ◌, ◌*ℤ◌, ◌≡◌, refl, arith, w64, pos, true, ◌&&◌}
+use Rattle.std.proofs.Common.{ℕ, to_z, of_z, ◌+◌, ◌*◌, ◌^◌, ◌<◌, ◌≤◌, ℤ, ◌+ℤ◌, ◌-ℤ◌, ◌*ℤ◌, ◌≡◌, refl, arith, w64, pos, true, ◌&&◌}
 use Rattle.std.specs.Prelude.{unsigned_abs, FitsSigned, int_lt}
 use Rattle.std.proofs.lemmas.Int.{ints, to_z-of_z, unsigned_abs-mul, fits_signed_mul}
 use Rattle.std.proofs.lemmas.Nat.{mul-le}

@@ -3,3 +3,4 @@ pub mod Outline
 pub mod Extent
 pub mod Fill
 pub mod Stroke
+pub mod Rectangle

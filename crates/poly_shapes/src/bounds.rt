@@ -1,5 +1,5 @@
-ghost use Rattle.std.specs.Prelude.{◌≡◌, fold};
-ghost use Rattle.poly_shapes.specs.Extent.{around, widened, bounds_of};
+ghost use Rattle.std.specs.Prelude.{◌≡◌, ◌↔◌, ◌≤ℤ◌, fold, IsTrue, IsSomeAnd};
+ghost use Rattle.poly_shapes.specs.Extent.{around, widened, bounds_of, Holds};
 
 use crate::point::{Bounds, Point};
 
@@ -45,4 +45,17 @@ fn widened_by(first: Bounds, points: &[Point]) -> Bounds
         bounds = bounds.widened(p);
     }
     bounds
+}
+
+/// Whether there are bounds and they hold the point, on their edges too.
+pub fn bounds_hold(bounds: Option<Bounds>, at: Point) -> bool
+    ensures { IsTrue result ↔ IsSomeAnd bounds (λ b. Holds b at.x at.y) }
+{
+    bounds.is_some_and(|b| is_between(b.l, at.x, b.r) && is_between(b.t, at.y, b.b))
+}
+
+fn is_between(least: i64, at: i64, most: i64) -> bool
+    ensures { IsTrue result ↔ (least ≤ℤ at) × (at ≤ℤ most) }
+{
+    least <= at && at <= most
 }

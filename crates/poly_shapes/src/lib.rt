@@ -7,6 +7,7 @@
 
 mod bounds;
 mod fill;
+pub mod laws;
 mod memory;
 mod outline;
 mod point;
@@ -17,3 +18,6 @@ mod stroke;
 pub use memory::OutOfMemory;
 pub use point::{Bounds, Cap, FillRule, Point, Sub};
 pub use poly::Poly;
+
+#[cfg(test)]
+mod tests;

@@ -1,12 +1,13 @@
-ghost use Rattle.std.specs.Prelude.{◌≡◌, ◌↔◌, ◌^◌, ◌≤◌, unsigned_abs, length, [], IsTrue, IfOk, IfSome, IsNone, pos, ◌≤ℤ◌};
+ghost use Rattle.std.specs.Prelude.{◌≡◌, ◌↔◌, ◌^◌, ◌≤◌, unsigned_abs, length, [], IsTrue, IfOk, IfSome, IsNone, IsSomeAnd, pos, ◌≤ℤ◌};
 ghost use Rattle.std.specs.List.{All};
 ghost use Rattle.poly_shapes.specs.Segments.{IsPlaced};
 ghost use Rattle.poly_shapes.specs.Outline.{Outline, AreTiled, IsMeasured, edges};
-ghost use Rattle.poly_shapes.specs.Extent.{bounds_of};
+ghost use Rattle.poly_shapes.specs.Extent.{bounds_of, Holds, LiesIn};
+ghost use Rattle.poly_shapes.specs.declared.point.Bounds.{Bounds};
 ghost use Rattle.poly_shapes.specs.Fill.{winding, crossings, Fills};
 ghost use Rattle.poly_shapes.specs.Stroke.{strokes};
 
-use crate::bounds::bounds_of;
+use crate::bounds::{bounds_hold, bounds_of};
 use crate::fill::{crossings_of, winding_of};
 use crate::memory::OutOfMemory;
 use crate::point::{Bounds, Cap, FillRule, Point, Sub};
@@ -72,6 +73,8 @@ impl Poly {
     pub fn bounds(&self) -> Option<Bounds>
         ensures value { result ≡ bounds_of self.now.points }
         ensures absent { IsNone result ↔ (self.now.points ≡ []) }
+        ensures holds { IfSome result (λ b. All (λ p. Holds b p.x p.y) self.now.points) }
+        ensures least { IfSome result (λ b. (outer : Bounds) → All (λ p. Holds outer p.x p.y) self.now.points → LiesIn b outer) }
     {
         self.bounds
     }
@@ -98,8 +101,18 @@ impl Poly {
         crossings_of(&self.points, &self.subs, spot(x, y))
     }
 
-    /// Whether the fill by a rule holds a point within 2^28. SVG 2, "The 'fill-rule' property".
+    /// Whether the fill by a rule holds a point within 2^28; a point that it holds lies within the bounds. SVG 2, "The
+    /// 'fill-rule' property".
     pub fn fills(&self, rule: FillRule, x: i128, y: i128) -> bool
+        requires x { unsigned_abs x ≤ 2 ^ 28 }
+        requires y { unsigned_abs y ≤ 2 ^ 28 }
+        ensures value { IsTrue result ↔ Fills rule (edges self.now) x y }
+        ensures within { IsTrue result → IsSomeAnd (bounds_of self.now.points) (λ b. Holds b x y) }
+    {
+        bounds_hold(self.bounds, spot(x, y)) && self.is_filled(rule, x, y)
+    }
+
+    fn is_filled(&self, rule: FillRule, x: i128, y: i128) -> bool
         requires x { unsigned_abs x ≤ 2 ^ 28 }
         requires y { unsigned_abs y ≤ 2 ^ 28 }
         ensures { IsTrue result ↔ Fills rule (edges self.now) x y }

@@ -225,9 +225,9 @@ fn line_holds(joined: bool, width: u64, at: Point, start: Point, points: &[Point
     let mut from = start;
     let mut joined = joined;
     for &to in points {
-        let segment = Segment { from, to };
-        if segment.has_length() {
-            if segment.holds(joined, width, at) {
+        let side = Segment { from, to };
+        if side.has_length() {
+            if side.holds(joined, width, at) {
                 return true;
             }
             joined = true;

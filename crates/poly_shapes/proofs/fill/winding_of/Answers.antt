@@ -1,4 +1,4 @@
-use Rattle.std.proofs.Common.{arith, ap, subst, sym, to_z, w64, ◌∙◌, List, length, ◌≤◌, unsigned_abs, get_or, false}
+use Rattle.std.proofs.Common.{arith, ap, subst, to_z, w64, ◌∙◌, List, length, ◌≤◌, unsigned_abs, get_or, false}
 use Rattle.std.proofs.lemmas.Int.{ints}
 use Rattle.poly_shapes.specs.declared.point.Point.{Point}
 use Rattle.poly_shapes.specs.Segments.{ring}

@@ -1,8 +1,7 @@
-use Rattle.std.proofs.Common.{arith, rules, ap, sym, ◌∙◌, ◌≡◌, true, false, List, drop, get_or, pos, ◌+◌}
+use Rattle.std.proofs.Common.{arith, ap, sym, ◌∙◌, drop, get_or, pos, ◌+◌}
 use Rattle.poly_shapes.specs.declared.point.Point.{Point}
-use Rattle.poly_shapes.specs.declared.segment.Segment.{Segment}
 use Rattle.poly_shapes.specs.Segments.{IsPlaced}
-use Rattle.poly_shapes.specs.Stroke.{lines_from, line_holds, has_length}
+use Rattle.poly_shapes.specs.Stroke.{lines_from, line_holds}
 use Rattle.poly_shapes.proofs.StrokeLemmas.{segment, lines-kept, lines-dropped, line_holds-rest, line_holds-first}
 use Rattle.poly_shapes.proofs.stroke.line_holds.Goals.{then-has_length+else-holds, else-has_length}
 use Rattle.poly_shapes.proofs.stroke.line_holds.Goals as goal

@@ -1,0 +1,46 @@
+-- Products of differences of whole numbers.
+use Rattle.std.proofs.Common.{◌+◌, ◌*◌, ◌≡◌, ℤ, ◌+ℤ◌, ◌-ℤ◌, ◌*ℤ◌, zero, suc, pos, negsuc, ◌<ℤ◌, ◌≤ℤ◌, arith, refl, ◌∙◌}
+use borrow.Author.Differences.{up, down, same_in, sum_is_lem, product_is, le_out, lt_out}
+use Rattle.std.proofs.Math.Nat.{mul-le-mul_right}
+use Rattle.std.proofs.lemmas.Int.{ints}
+use Rattle.std.proofs.Math.IntN.{*ℤ_comm, zero-*ℤ}
+
+add-mul : (a b c : ℤ) → (a +ℤ b) *ℤ c ≡ a *ℤ c +ℤ b *ℤ c
+add-mul a b c =
+    let parts = sum_is_lem a b in
+    let above : (up (a +ℤ b) + down a + down b) * up c ≡ (down (a +ℤ b) + up a + up b) * up c = rw parts refl in
+    let below : (up (a +ℤ b) + down a + down b) * down c ≡ (down (a +ℤ b) + up a + up b) * down c = rw parts refl in
+    omega (arith, same_in, sum_is_lem, product_is)
+
+pub sub-mul : (a b c : ℤ) → (a -ℤ b) *ℤ c ≡ a *ℤ c -ℤ b *ℤ c
+sub-mul a b c =
+    let whole : (a -ℤ b) +ℤ b ≡ a = omega (arith, ints) in
+    let parts = rw whole at (add-mul (a -ℤ b) b c) in
+    omega (arith, ints)
+
+mul-sub : (a b c : ℤ) → a *ℤ (b -ℤ c) ≡ a *ℤ b -ℤ a *ℤ c
+mul-sub a b c = *ℤ_comm a (b -ℤ c) ∙ sub-mul b c a ∙ rw (*ℤ_comm b a, *ℤ_comm c a) refl
+
+pub differences-mul : (p q r s : ℤ) → (p -ℤ q) *ℤ (r -ℤ s) ≡ (p *ℤ r -ℤ p *ℤ s) -ℤ (q *ℤ r -ℤ q *ℤ s)
+differences-mul p q r s = sub-mul p q (r -ℤ s) ∙ rw (mul-sub p r s, mul-sub q r s) refl
+
+-- products by a number that isn't below 0 keep the order, and by a positive one the strict order
+pub le-mul : (p q w : ℤ) → pos 0 ≤ℤ w → p ≤ℤ q → (p *ℤ w) ≤ℤ (q *ℤ w)
+le-mul p q (pos w) not_below h = omega (arith, ints, mul-le-mul_right w (le_out p q h))
+le-mul p q (negsuc w) not_below h = absurd (omega (arith, ints))
+
+pub lt-mul : (p q w : ℤ) → pos 0 <ℤ w → p <ℤ q → (p *ℤ w) <ℤ (q *ℤ w)
+lt-mul p q (pos zero) positive h = absurd (omega (arith, ints))
+lt-mul p q (pos (suc w)) positive h = omega (arith, ints, mul-le-mul_right (suc w) (lt_out p q h))
+lt-mul p q (negsuc w) positive h = absurd (omega (arith, ints))
+
+-- the sign of a product with a positive number
+pub mul-above : (z d : ℤ) → pos 0 <ℤ d → pos 0 <ℤ z → pos 0 <ℤ (z *ℤ d)
+mul-above z d p q = rw (zero-*ℤ d) at (lt-mul (pos 0) z d p q)
+
+pub mul-not_above : (z d : ℤ) → pos 0 <ℤ d → z ≤ℤ pos 0 → (z *ℤ d) ≤ℤ pos 0
+mul-not_above z d p q = rw (zero-*ℤ d) at (le-mul z (pos 0) d (omega (arith, ints)) q)
+
+-- a difference the other way round
+pub neg_difference-mul : (a b c : ℤ) → (a -ℤ b) *ℤ c ≡ pos 0 -ℤ (b -ℤ a) *ℤ c
+neg_difference-mul a b c = let there = sub-mul a b c in let back = sub-mul b a c in omega (arith, ints)
