@@ -284,7 +284,8 @@ fn push_chain_replies(replies: &mut Vec<u8>) -> Result<(), Fail> {
 }
 
 /// Edits of a page of three nested blocks, each refused.
-const REFUSED_MOVES: &[u8] = br#"{"op":"add","parent":0,"at":0,"kind":"block","boxes":[[0,0,0,100,100]],"style":{}}
+const REFUSED_MOVES: &[u8] =
+    br#"{"op":"add","parent":0,"at":0,"kind":"block","boxes":[[0,0,0,100,100]],"style":{}}
 {"op":"add","parent":1,"at":0,"kind":"block","boxes":[[0,0,0,50,50]],"style":{}}
 {"op":"add","parent":2,"at":0,"kind":"block","boxes":[[0,0,0,20,20]],"style":{}}
 {"op":"move","id":2,"parent":3,"at":0}
