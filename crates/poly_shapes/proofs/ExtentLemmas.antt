@@ -1,8 +1,9 @@
 -- The bounds of points: the lesser and the greater of two coordinates, as the code compares them on 64 bits, and that the
 -- bounds are the least rectangle that holds the points.
-use Rattle.std.proofs.Common.{◌≡◌, zero, suc, ℤ, List, [], ◌∷◌, fold, IfSome, arith, FitsSigned, w64}
+use Rattle.std.proofs.Common.{◌≡◌, ℕ, zero, suc, ℤ, List, [], ◌∷◌, fold, IfSome, arith, FitsSigned, w64, to_z, of_z, pos, ◌+ℤ◌, ◌-ℤ◌, ◌≤ℤ◌, ◌<◌, ◌^◌, ◌↔◌, IsTrue}
+use Rattle.std.specs.Prelude.{int_le}
 use Rattle.std.specs.List.{All}
-use Rattle.std.specs.Int.{int_min, int_max}
+use Rattle.std.specs.Int.{int_min, int_max, w128}
 use Rattle.std.proofs.lemmas.Int.{ints, clamps, to_z-of_z}
 use Rattle.poly_shapes.specs.declared.point.Bounds.{Bounds}
 use Rattle.poly_shapes.specs.declared.point.Point.{Point}
@@ -119,3 +120,27 @@ pub bounds_of-least : (points : List Point)
 bounds_of-least [] = tt
 bounds_of-least (p ∷ points) = λ outer held.
     is_least (around p) outer points (around-lies_in p outer (held 0 p (omega arith))) (λ k d h. held (suc k) d (omega arith))
+
+-- ---- a side moved out by a width, as the code tests it on 128 bits
+
+abbrev read_wide : ℤ → ℤ
+read_wide z = to_z w128 (of_z w128 z)
+
+int_le-iff : (p q : ℤ) → IsTrue (int_le p q) ↔ p ≤ℤ q
+int_le-iff p q = grind (arith, ints)
+
+pub not_before-read : (least at a b d : ℤ) (width : ℕ) → FitsSigned w64 least → FitsSigned w64 at → width < 2 ^ 64
+    → a ≡ read least → b ≡ pos width → d ≡ read at
+    → IsTrue (int_le (read_wide (read_wide a -ℤ read_wide b)) (read_wide d)) ↔ ((least -ℤ pos width) ≤ℤ at)
+not_before-read least at a b d width fl fa fits ea eb ed =
+    let side : read_wide (read_wide a -ℤ read_wide b) ≡ least -ℤ pos width = omega (arith, ints) in
+    let place : read_wide d ≡ at = omega (arith, ints) in
+    rw (side, place) (int_le-iff (least -ℤ pos width) at)
+
+pub not_beyond-read : (most at a b d : ℤ) (width : ℕ) → FitsSigned w64 most → FitsSigned w64 at → width < 2 ^ 64
+    → a ≡ read most → b ≡ pos width → d ≡ read at
+    → IsTrue (int_le (read_wide d) (read_wide (read_wide a +ℤ read_wide b))) ↔ (at ≤ℤ (most +ℤ pos width))
+not_beyond-read most at a b d width fm fa fits ea eb ed =
+    let side : read_wide (read_wide a +ℤ read_wide b) ≡ most +ℤ pos width = omega (arith, ints) in
+    let place : read_wide d ≡ at = omega (arith, ints) in
+    rw (side, place) (int_le-iff at (most +ℤ pos width))

@@ -5,7 +5,14 @@ use Rattle.std.proofs.Math.Nat.{mul-le-mul_right}
 use Rattle.std.proofs.lemmas.Int.{ints}
 use Rattle.std.proofs.Math.IntN.{*ℤ_comm, zero-*ℤ}
 
-add-mul : (a b c : ℤ) → (a +ℤ b) *ℤ c ≡ a *ℤ c +ℤ b *ℤ c
+-- the two parts of a product, of which the number is the difference
+up-mul : (a b : ℤ) → up (a *ℤ b) ≡ up a * up b + down a * down b
+up-mul a b = (product_is a b).0
+
+down-mul : (a b : ℤ) → down (a *ℤ b) ≡ up a * down b + down a * up b
+down-mul a b = (product_is a b).1
+
+pub add-mul : (a b c : ℤ) → (a +ℤ b) *ℤ c ≡ a *ℤ c +ℤ b *ℤ c
 add-mul a b c =
     let parts = sum_is_lem a b in
     let above : (up (a +ℤ b) + down a + down b) * up c ≡ (down (a +ℤ b) + up a + up b) * up c = rw parts refl in
@@ -18,7 +25,7 @@ sub-mul a b c =
     let parts = rw whole at (add-mul (a -ℤ b) b c) in
     omega (arith, ints)
 
-mul-sub : (a b c : ℤ) → a *ℤ (b -ℤ c) ≡ a *ℤ b -ℤ a *ℤ c
+pub mul-sub : (a b c : ℤ) → a *ℤ (b -ℤ c) ≡ a *ℤ b -ℤ a *ℤ c
 mul-sub a b c = *ℤ_comm a (b -ℤ c) ∙ sub-mul b c a ∙ rw (*ℤ_comm b a, *ℤ_comm c a) refl
 
 pub differences-mul : (p q r s : ℤ) → (p -ℤ q) *ℤ (r -ℤ s) ≡ (p *ℤ r -ℤ p *ℤ s) -ℤ (q *ℤ r -ℤ q *ℤ s)
@@ -44,3 +51,7 @@ mul-not_above z d p q = rw (zero-*ℤ d) at (le-mul z (pos 0) d (omega (arith, i
 -- a difference the other way round
 pub neg_difference-mul : (a b c : ℤ) → (a -ℤ b) *ℤ c ≡ pos 0 -ℤ (b -ℤ a) *ℤ c
 neg_difference-mul a b c = let there = sub-mul a b c in let back = sub-mul b a c in omega (arith, ints)
+
+-- two factors of a product change places
+pub mul-swap : (a b c : ℤ) → a *ℤ b *ℤ c ≡ a *ℤ c *ℤ b
+mul-swap a b c = same_in (a *ℤ b *ℤ c) (a *ℤ c *ℤ b) (simp (up-mul, down-mul) (omega arith))

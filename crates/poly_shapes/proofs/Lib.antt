@@ -8,3 +8,5 @@ pub mod TurnedLemmas
 pub mod CrossingLemmas
 pub mod RectangleLemmas
 pub mod OutsideLemmas
+pub mod ReachLemmas
+pub mod DrawnLemmas

@@ -1,5 +1,5 @@
 -- The bounds of points: the least closed rectangle that holds them.
-use Rattle.std.specs.Prelude.{ℤ, ◌≤ℤ◌, Option, None, Some, List, [], ◌∷◌, fold}
+use Rattle.std.specs.Prelude.{ℕ, ℤ, pos, ◌+ℤ◌, ◌-ℤ◌, ◌≤ℤ◌, Option, None, Some, List, [], ◌∷◌, fold}
 use Rattle.std.specs.Int.{int_min, int_max}
 use Rattle.poly_shapes.specs.declared.point.Point.{Point}
 use Rattle.poly_shapes.specs.declared.point.Bounds.{Bounds}
@@ -35,3 +35,12 @@ pub record LiesIn (inner outer : Bounds) : Type 0 where
   pub right : inner.r ≤ℤ outer.r
   pub top : outer.t ≤ℤ inner.t
   pub bottom : inner.b ≤ℤ outer.b
+
+-- each side moved out by a width
+abbrev pub moved_out : ℕ → Bounds → Bounds
+moved_out width bounds = record {
+  l = bounds.l -ℤ pos width;
+  t = bounds.t -ℤ pos width;
+  r = bounds.r +ℤ pos width;
+  b = bounds.b +ℤ pos width;
+}

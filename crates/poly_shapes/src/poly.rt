@@ -1,13 +1,13 @@
 ghost use Rattle.std.specs.Prelude.{◌≡◌, ◌↔◌, ◌^◌, ◌≤◌, unsigned_abs, length, [], IsTrue, IfOk, IfSome, IsNone, IsSomeAnd, pos, ◌≤ℤ◌};
 ghost use Rattle.std.specs.List.{All};
-ghost use Rattle.poly_shapes.specs.Segments.{IsPlaced};
+ghost use Rattle.poly_shapes.specs.Segments.{IsPlaced, IsNear};
 ghost use Rattle.poly_shapes.specs.Outline.{Outline, AreTiled, IsMeasured, edges};
-ghost use Rattle.poly_shapes.specs.Extent.{bounds_of, Holds, LiesIn};
+ghost use Rattle.poly_shapes.specs.Extent.{bounds_of, Holds, LiesIn, moved_out};
 ghost use Rattle.poly_shapes.specs.declared.point.Bounds.{Bounds};
 ghost use Rattle.poly_shapes.specs.Fill.{winding, crossings, Fills};
-ghost use Rattle.poly_shapes.specs.Stroke.{strokes};
+ghost use Rattle.poly_shapes.specs.Stroke.{strokes, strokes_of};
 
-use crate::bounds::{bounds_hold, bounds_of};
+use crate::bounds::{bounds_hold, bounds_of, reach_holds};
 use crate::fill::{crossings_of, winding_of};
 use crate::memory::OutOfMemory;
 use crate::point::{Bounds, Cap, FillRule, Point, Sub};
@@ -124,16 +124,26 @@ impl Poly {
     }
 
     /// Whether the stroke of a width from 0 to 2^26, in the points' units, holds a point within 2^28: some segment's body,
-    /// some join or some end does. Joins are round. SVG 2, "Stroke properties".
+    /// some join or some end does. Joins are round. A point that it holds lies within the bounds, moved out by the width. SVG 2, "Stroke properties".
     pub fn strokes(&self, width: i64, cap: Cap, x: i128, y: i128) -> bool
         requires width_above { pos 0 ≤ℤ width }
         requires width_below { width ≤ℤ pos (2 ^ 26) }
         requires x { unsigned_abs x ≤ 2 ^ 28 }
         requires y { unsigned_abs y ≤ 2 ^ 28 }
-        ensures { result ≡ strokes self.now (unsigned_abs width) cap x y }
+        ensures value { result ≡ strokes self.now (unsigned_abs width) cap x y }
+        ensures within { IsTrue result → IsSomeAnd (bounds_of self.now.points) (λ b. Holds (moved_out (unsigned_abs width) b) x y) }
     {
         let width = width.unsigned_abs();
-        width > 0 && strokes_of(&self.points, &self.subs, Pen { width, cap }, spot(x, y))
+        width > 0 && self.is_stroked(Pen { width, cap }, spot(x, y))
+    }
+
+    fn is_stroked(&self, pen: Pen, at: Point) -> bool
+        requires width { pen.width ≤ 2 ^ 26 }
+        requires at { IsNear at }
+        ensures value { result ≡ strokes_of pen.cap pen.width at.x at.y self.now.points self.now.subs }
+        ensures within { IsTrue result → IsSomeAnd (bounds_of self.now.points) (λ b. Holds (moved_out pen.width b) at.x at.y) }
+    {
+        reach_holds(self.bounds, pen.width, at) && strokes_of(&self.points, &self.subs, pen, at)
     }
 }
 
