@@ -1,5 +1,5 @@
 -- Which elements lie under a point of the viewport (CSSOM View, `elementsFromPoint`).
-use Rattle.std.specs.Prelude.{ℕ, ◌-◌, length, slice_get, List, [], ◌∷◌, ◌++◌, reverse, Bool, false, not, ◌&&◌, if◌then◌else◌, ◌==◌, ℤ, pos, neg_ℤ, ◌+ℤ◌, ◌-ℤ◌, ◌*ℤ◌, int_le, int_lt}
+use Rattle.std.specs.Prelude.{ℕ, ◌-◌, length, slice_get, List, [], ◌∷◌, ◌++◌, reverse, Option, Bool, false, not, ◌&&◌, if◌then◌else◌, ◌==◌, ℤ, pos, neg_ℤ, ◌+ℤ◌, ◌-ℤ◌, ◌*ℤ◌, int_le, int_lt}
 use Rattle.std.specs.Option.{option_map_or}
 use Rattle.std.specs.List.{filter}
 use Rattle.fractions.specs.declared.rect.Spot.{Spot}
@@ -74,3 +74,7 @@ elements_with page x y (root ∷ others) = then_root root (each_once (filter (ad
 -- where admitted, each element once, and then the root
 abbrev pub elements_from_point : Contents → ℤ → ℤ → List ℕ
 elements_from_point page x y = if is_inside page.viewport x y then elements_with page x y (roots_of page.tree) else []
+
+-- the element from the point (CSSOM View, `elementFromPoint`): the first of them, and none where there is none
+abbrev pub element_from_point : Contents → ℤ → ℤ → Option ℕ
+element_from_point page x y = slice_get (elements_from_point page x y) 0

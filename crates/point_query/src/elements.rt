@@ -1,6 +1,7 @@
-ghost use Rattle.std.specs.Prelude.{◌≡◌, ℕ, ◌+◌, ◌++◌, ◌∷◌, [], ◌&&◌, ◌+ℤ◌, ◌*ℤ◌, pos, int_le, if◌then◌else◌, IsTrue, IfOk};
+ghost use Rattle.std.specs.Prelude.{◌≡◌, ◌↔◌, ◌⊎◌, false, IsNone, ℕ, ◌+◌, ◌++◌, ◌∷◌, [], ◌&&◌, ◌+ℤ◌, ◌*ℤ◌, pos, int_le, if◌then◌else◌, IsTrue, IfOk};
 ghost use Rattle.box_tree.specs.Contents.{IsWithin, IsValid, has_id, tree_of};
-ghost use Rattle.point_query.specs.Elements.{elements_from_point, is_inside, span_holds, box_holds, then_root, ends_with};
+ghost use Rattle.box_tree.specs.Forest.{roots_of};
+ghost use Rattle.point_query.specs.Elements.{elements_from_point, element_from_point, is_inside, span_holds, box_holds, then_root, ends_with};
 ghost use Rattle.point_query.specs.Walk.{fine_point, from_corner, admitted_in, ancestor_count, IsNear};
 
 use box_tree::{Page, Piece, Viewport};
@@ -43,6 +44,25 @@ pub fn hit<L: Ledger>(
     ids.reverse();
     end_with(&mut ids, root)?;
     Ok(ids)
+}
+
+/// The topmost element under a point of the viewport, in units (CSSOM View, `elementFromPoint`).
+///
+/// None exactly outside the viewport and without a root. It takes memory to find it, and leaves the page as it is.
+pub fn top<L: Ledger>(
+    alloc: Global,
+    engine: &Engine,
+    x: i64,
+    y: i64,
+    steps: &mut Steps<L>,
+) -> Result<Option<u32>, OutOfMemory>
+    requires x { IsWithin 26 x }
+    requires y { IsWithin 26 y }
+    ensures first { IfOk result (λ id. id ≡ element_from_point engine.now x y) }
+    ensures none { IfOk result (λ id. IsNone id ↔ ((is_inside engine.now.viewport x y ≡ false) ⊎ (roots_of engine.now.tree ≡ []))) }
+{
+    let ids = hit(alloc, engine, x, y, steps)?;
+    Ok(ids.first().copied())
 }
 
 // Whether the viewport holds a point, its right and lower edges too.

@@ -54,6 +54,8 @@ fn compare<L: Ledger>(
         assert!(rt; -100_000 < x && x < 100_000 && -100_000 < y && y < 100_000);
         let ids = hit(alloc, &engine, x, y, &mut steps)?;
         assert_eq!(rt; ids.as_slice(), wanted);
+        let id = top(alloc, &engine, x, y, &mut steps)?;
+        assert_eq!(rt; id, wanted.first().copied());
     }
     Ok(())
 }
