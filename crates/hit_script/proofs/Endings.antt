@@ -1,20 +1,23 @@
 -- How a run ends, by how far it had come.
 use Rattle.std.proofs.Common.{◌≡◌, ◌≢◌, ◌<◌, ◌≤◌, ◌+◌, ◌^◌, ℕ, List, [], ◌++◌, length, take, drop, Option, Some, None, Result, Ok, Err, inl, inr, refl, ap, sym, ◌∙◌, append_assoc, arith}
-use Rattle.std.specs.Prelude.{IfSome, IsSome, OnOk, OnErr, ◌⊎◌, ◌-◌}
+use Rattle.std.specs.Prelude.{IfSome, IsSome, IsSomeAnd, OnOk, OnErr, ◌⊎◌, ◌-◌, option_and_then}
 use Rattle.std.proofs.lemmas.Option.{same_Some}
 use Rattle.std.proofs.lemmas.Bool.{false≢true}
-use Rattle.std.proofs.lemmas.List.{append-nil, take-append-drop, append_cancel_right, length-drop}
+use Rattle.std.proofs.lemmas.List.{append-nil, take-append-drop, append_cancel_right, append_cancel_left, length-drop}
 use Rattle.box_tree.specs.Contents.{Contents}
-use Rattle.hit_script.specs.Ending.{Ends}
+use Rattle.hit_script.specs.Answered.{Answers, Hands}
+use Rattle.hit_script.specs.Ending.{Ends, Moment}
 use Rattle.hit_script.specs.Ends.{Read, Rose, TakesAll, TakesFront}
 use Rattle.hit_script.specs.Lines.{lines, whole_lines, unfinished}
+use Rattle.hit_script.specs.Log.{Entry, Grows, Scripted, scripted_lines, scripted_replies, text_if_none}
 use Rattle.hit_script.specs.Outcome.{fault_status}
 use Rattle.hit_script.specs.Script.{first_page, replies_from, page_behind}
 use Rattle.hit_script.specs.declared.outcome.Status.{Status}
 use Rattle.hit_script.specs.declared.outcome.Status.TheVariants as status
 use Rattle.hit_script.specs.declared.sinks.SinkFault.{SinkFault}
 use Rattle.hit_script.specs.declared.sinks.SinkFault.TheVariants as sink_fault
-use Rattle.hit_script.proofs.Progress.{Stands, takes_both, all_is_front, front_behind, left_more, read_rest, read_within}
+use Rattle.hit_script.proofs.Logs.{grows_both}
+use Rattle.hit_script.proofs.Progress.{Stands, page_now, taken_now, hands_both, all_is_front, front_behind, left_more, read_rest, read_within, rose_since}
 use Rattle.hit_script.proofs.Runs.{replies_from-append, all_lines_more}
 
 -- The replies to a script, by those to the lines that are whole so far.
@@ -39,158 +42,197 @@ front_as a b xs ys same front = (front.0, rw same front.1)
 all_as : (a b : Option (List ℕ)) (xs ys : List ℕ) → ys ≡ xs → TakesAll a b xs → TakesAll a b ys
 all_as a b xs ys same all = rw same all
 
--- A front of the replies is taken at each moment.
+-- What is left after some bytes, fewer than 2^32.
+abbrev pub LeftShort : Moment → Moment → Type 0
+LeftShort start finish = (script : List ℕ) → start.left ≡ Some script → (n : ℕ) × (n < 2 ^ 32) × (n ≤ length script) × (finish.left ≡ Some (drop n script))
 
-pub front_so_far : {left0 left taken0 taken : Option (List ℕ)} {page0 page : Option Contents} {read : ℕ} {begun : List ℕ} → Stands left0 left taken0 taken page0 page read begun
-    → (script : List ℕ) (first : Contents) → left0 ≡ Some script → page0 ≡ Some first → TakesFront taken0 taken (replies_from first (lines script))
-front_so_far {left0} {left} {taken0} {taken} {page0} {page} {read} {begun} stands script first told told_page =
-    front_as taken0 taken _ _ (all_replies first script read) (all_is_front taken0 taken _ _ (stands.taken_is script first told told_page))
+abbrev pub FrontTaken : Moment → Moment → Type 0
+FrontTaken start finish = (script : List ℕ) (first : Contents) → start.left ≡ Some script → start.page ≡ Some first → TakesFront start.taken finish.taken (replies_from first (lines script))
 
-pub front_in_piece : {left0 left taken0 taken : Option (List ℕ)} {page0 page : Option Contents} {read : ℕ} {begun : List ℕ} (left' taken' : Option (List ℕ)) (bytes : List ℕ) → Stands left0 left taken0 taken page0 page read begun
-    → Read left bytes left'
-    → ((now : Contents) → page ≡ Some now → TakesFront taken taken' (replies_from now (lines (whole_lines (begun ++ bytes)))))
-    → (script : List ℕ) (first : Contents) → left0 ≡ Some script → page0 ≡ Some first → TakesFront taken0 taken' (replies_from first (lines script))
-front_in_piece {left0} {left} {taken0} {taken} {page0} {page} {read} {begun} left' taken' bytes stands reads part script first told told_page =
-    let more = left_more left left' bytes script read (stands.left_is script told) reads in
-    let now = page_behind first (lines (whole_lines (take read script))) in
-    let next = next_replies now (unfinished (take read script)) bytes more.0 (drop read script) more.2 in
-    let is_begun = stands.begun_is script told in
-    let so_far = replies_from first (lines (whole_lines (take read script))) in
-    let front : TakesFront taken taken' (replies_from now (lines (whole_lines (unfinished (take read script) ++ bytes)))) = rw is_begun at (part now (stands.page_is script first told told_page)) in
-    front_as taken0 taken' _ _ (all_replies first script read ∙ ap (λ (r : List ℕ). so_far ++ r) next)
-    (front_behind taken0 taken taken' so_far _ _ (stands.taken_is script first told told_page) front)
-
--- The end of the input.
-
-pub at_end : {left0 left taken0 taken : Option (List ℕ)} {page0 page : Option Contents} {read : ℕ} {begun : List ℕ} (left' : Option (List ℕ)) → Stands left0 left taken0 taken page0 page read begun
-    → Read left [] left' → IfSome left' (λ rest. rest ≡ [])
-    → (script : List ℕ) → left0 ≡ Some script → (left' ≡ Some []) × (drop read script ≡ [])
-at_end {left0} {left} {taken0} {taken} {page0} {page} {read} {begun} left' stands reads ended script told =
-    let more = left_more left left' [] script read (stands.left_is script told) reads in
-    let none : more.0 ≡ [] = rw more.1 at ended in
-    (more.1 ∙ ap Some none, more.2 ∙ none)
-
+-- the replies to a script, where the line that is begun is its last
 last_replies : (first : Contents) (script begun : List ℕ) (read : ℕ) → begun ≡ unfinished (take read script) → drop read script ≡ [] → replies_from first (lines script) ≡ replies_from first (lines (whole_lines (take read script))) ++ replies_from (page_behind first (lines (whole_lines (take read script)))) (lines begun)
 last_replies first script begun read is_begun none =
     let now = page_behind first (lines (whole_lines (take read script))) in
     let so_far = replies_from first (lines (whole_lines (take read script))) in
     all_replies first script read ∙ ap (λ (s : List ℕ). so_far ++ replies_from now (lines s)) (ap (λ (r : List ℕ). unfinished (take read script) ++ r) none ∙ append-nil (unfinished (take read script)) ∙ sym is_begun)
 
-pub front_in_last : {left0 left taken0 taken : Option (List ℕ)} {page0 page : Option Contents} {read : ℕ} {begun : List ℕ} (left' taken' : Option (List ℕ)) → Stands left0 left taken0 taken page0 page read begun
-    → Read left [] left' → IfSome left' (λ rest. rest ≡ [])
-    → ((now : Contents) → page ≡ Some now → TakesFront taken taken' (replies_from now (lines begun)))
-    → (script : List ℕ) (first : Contents) → left0 ≡ Some script → page0 ≡ Some first → TakesFront taken0 taken' (replies_from first (lines script))
-front_in_last {left0} {left} {taken0} {taken} {page0} {page} {read} {begun} left' taken' stands reads ended part script first told told_page =
-    let end = at_end left' stands reads ended script told in
-    let now = page_behind first (lines (whole_lines (take read script))) in
-    let so_far = replies_from first (lines (whole_lines (take read script))) in
-    let last = replies_from now (lines begun) in
-    front_as taken0 taken' _ _ (last_replies first script begun read (stands.begun_is script told) end.1 ∙ ap (λ (r : List ℕ). so_far ++ r) (sym (append-nil last)))
-    (front_behind taken0 taken taken' so_far last [] (stands.taken_is script first told told_page) (part now (stands.page_is script first told told_page)))
+-- the lines of a script, where the line that is begun is its last
+last_lines : (script begun : List ℕ) (read : ℕ) → begun ≡ unfinished (take read script) → drop read script ≡ [] → lines (whole_lines (take read script)) ++ lines begun ≡ lines script
+last_lines script begun read is_begun none =
+    ap (λ (bytes : List ℕ). lines (whole_lines (take read script)) ++ lines bytes) (is_begun ∙ sym (append-nil (unfinished (take read script))) ∙ ap (λ (r : List ℕ). unfinished (take read script) ++ r) (sym none))
+    ∙ sym (all_lines_more (take read script) (drop read script))
+    ∙ ap lines (take-append-drop read script)
 
-pub all_in_last : {left0 left taken0 taken : Option (List ℕ)} {page0 page : Option Contents} {read : ℕ} {begun : List ℕ} (left' taken' : Option (List ℕ)) → Stands left0 left taken0 taken page0 page read begun
-    → Read left [] left' → IfSome left' (λ rest. rest ≡ [])
-    → ((now : Contents) → page ≡ Some now → TakesAll taken taken' (replies_from now (lines begun)))
-    → (script : List ℕ) (first : Contents) → left0 ≡ Some script → page0 ≡ Some first → TakesAll taken0 taken' (replies_from first (lines script))
-all_in_last {left0} {left} {taken0} {taken} {page0} {page} {read} {begun} left' taken' stands reads ended all script first told told_page =
-    let end = at_end left' stands reads ended script told in
-    let now = page_behind first (lines (whole_lines (take read script))) in
-    all_as taken0 taken' _ _ (last_replies first script begun read (stands.begun_is script told) end.1)
-    (takes_both taken0 taken taken' _ _ (stands.taken_is script first told told_page) (all now (stands.page_is script first told told_page)))
+module _ {start now : Moment} {read : ℕ} {begun : List ℕ} (stands : Stands start now read begun) where
+  -- A front of the replies is taken at each moment.
 
--- What is left after some bytes, fewer than 2^32.
-abbrev pub LeftShort : Option (List ℕ) → Option (List ℕ) → Type 0
-LeftShort left0 left = (script : List ℕ) → left0 ≡ Some script → (n : ℕ) × (n < 2 ^ 32) × (n ≤ length script) × (left ≡ Some (drop n script))
+  pub front_so_far : FrontTaken start now
+  front_so_far script first told told_page =
+      front_as start.taken now.taken _ _ (all_replies first script read) (all_is_front start.taken now.taken _ _ (taken_now stands script first told told_page))
 
-abbrev pub FrontTaken : Option (List ℕ) → Option (List ℕ) → Option (List ℕ) → Option Contents → Type 0
-FrontTaken left0 taken0 taken page0 = (script : List ℕ) (first : Contents) → left0 ≡ Some script → page0 ≡ Some first → TakesFront taken0 taken (replies_from first (lines script))
+  pub front_in_piece : (finish : Moment) (bytes : List ℕ) → Read now.left bytes finish.left
+      → ((was : Contents) → now.page ≡ Some was → TakesFront now.taken finish.taken (replies_from was (lines (whole_lines (begun ++ bytes)))))
+      → FrontTaken start finish
+  front_in_piece finish bytes reads part script first told told_page =
+      let more = left_more now.left finish.left bytes script read (stands.left_is script told) reads in
+      let page = page_behind first (lines (whole_lines (take read script))) in
+      let next = next_replies page (unfinished (take read script)) bytes more.0 (drop read script) more.2 in
+      let is_begun = stands.begun_is script told in
+      let so_far = replies_from first (lines (whole_lines (take read script))) in
+      let front : TakesFront now.taken finish.taken (replies_from page (lines (whole_lines (unfinished (take read script) ++ bytes)))) = rw is_begun at (part page (page_now stands script first told told_page)) in
+      front_as start.taken finish.taken _ _ (all_replies first script read ∙ ap (λ (r : List ℕ). so_far ++ r) next)
+      (front_behind start.taken now.taken finish.taken so_far _ _ (taken_now stands script first told told_page) front)
 
-pub short_so_far : {left0 left taken0 taken : Option (List ℕ)} {page0 page : Option Contents} {read : ℕ} {begun : List ℕ} → Stands left0 left taken0 taken page0 page read begun → read < 2 ^ 32 → LeftShort left0 left
-short_so_far {left0} {left} {taken0} {taken} {page0} {page} {read} {begun} stands below script told = (read, below, stands.within script told, stands.left_is script told)
+  -- The end of the input.
 
-pub short_with_piece : {left0 left taken0 taken : Option (List ℕ)} {page0 page : Option Contents} {read : ℕ} {begun : List ℕ} (left' : Option (List ℕ)) (bytes : List ℕ) → Stands left0 left taken0 taken page0 page read begun → Read left bytes left' → read + length bytes < 2 ^ 32 → LeftShort left0 left'
-short_with_piece {left0} {left} {taken0} {taken} {page0} {page} {read} {begun} left' bytes stands reads below script told =
-    let more = left_more left left' bytes script read (stands.left_is script told) reads in
-    (read + length bytes, below, read_within bytes more.0 script read (stands.within script told) more.2, more.1 ∙ ap Some (sym (read_rest bytes more.0 script read more.2)))
+  pub at_end : (finish : Moment) → Read now.left [] finish.left → IfSome finish.left (λ rest. rest ≡ [])
+      → (script : List ℕ) → start.left ≡ Some script → (finish.left ≡ Some []) × (drop read script ≡ [])
+  at_end finish reads ended script told =
+      let more = left_more now.left finish.left [] script read (stands.left_is script told) reads in
+      let none : more.0 ≡ [] = rw more.1 at ended in
+      (more.1 ∙ ap Some none, more.2 ∙ none)
+
+  pub front_in_last : (finish : Moment) → Read now.left [] finish.left → IfSome finish.left (λ rest. rest ≡ [])
+      → ((was : Contents) → now.page ≡ Some was → TakesFront now.taken finish.taken (replies_from was (lines begun)))
+      → FrontTaken start finish
+  front_in_last finish reads ended part script first told told_page =
+      let end = at_end finish reads ended script told in
+      let page = page_behind first (lines (whole_lines (take read script))) in
+      let so_far = replies_from first (lines (whole_lines (take read script))) in
+      let last = replies_from page (lines begun) in
+      front_as start.taken finish.taken _ _ (last_replies first script begun read (stands.begun_is script told) end.1 ∙ ap (λ (r : List ℕ). so_far ++ r) (sym (append-nil last)))
+      (front_behind start.taken now.taken finish.taken so_far last [] (taken_now stands script first told told_page) (part page (page_now stands script first told told_page)))
+
+  -- at the end all lines are answered
+  all_in_last : (finish : Moment) → Read now.left [] finish.left → IfSome finish.left (λ rest. rest ≡ [])
+      → Hands (Answers (lines begun) now.page finish.page now.log finish.log) now.taken finish.taken
+      → (script : List ℕ) → start.left ≡ Some script → Hands (Answers (lines script) start.page finish.page start.log finish.log) start.taken finish.taken
+  all_in_last finish reads ended handed script told =
+      let end = at_end finish reads ended script told in
+      rw (← last_lines script begun read (stands.begun_is script told) end.1) (hands_both (lines (whole_lines (take read script))) (lines begun) start.taken (stands.answered script told) handed)
+
+  pub short_so_far : read < 2 ^ 32 → LeftShort start now
+  short_so_far below script told = (read, below, stands.within script told, stands.left_is script told)
+
+  pub short_with_piece : (finish : Moment) (bytes : List ℕ) → Read now.left bytes finish.left → read + length bytes < 2 ^ 32 → LeftShort start finish
+  short_with_piece finish bytes reads below script told =
+      let more = left_more now.left finish.left bytes script read (stands.left_is script told) reads in
+      (read + length bytes, below, read_within bytes more.0 script read (stands.within script told) more.2, more.1 ∙ ap Some (sym (read_rest bytes more.0 script read more.2)))
 
 -- A run whose sink failed or wanted memory.
-pub ends_by_sink : (fault : SinkFault) (how : Status) (left0 left taken0 taken : Option (List ℕ)) (page0 : Option Contents) (rf0 rf wf0 wf : ℕ) → how ≡ fault_status fault → (fault ≡ sink_fault.Failed → Rose wf0 wf) → FrontTaken left0 taken0 taken page0 → LeftShort left0 left → Ends how left0 left taken0 taken page0 rf0 rf wf0 wf
-ends_by_sink sink_fault.Failed how left0 left taken0 taken page0 rf0 rf wf0 wf is rose front short = record {
+pub ends_by_sink : (fault : SinkFault) (how : Status) (start finish : Moment) → how ≡ fault_status fault → (fault ≡ sink_fault.Failed → Rose start.write_faults finish.write_faults) → FrontTaken start finish → LeftShort start finish → Grows start.log finish.log → Ends how start finish
+ends_by_sink sink_fault.Failed how start finish is rose front short grows = record {
   usage = λ e. cc;
   replied = λ e script first told told_page. absurd (cc);
   to_the_end = λ e script told. absurd (cc);
+  page_at_end = λ e script first told told_page. absurd (cc);
   front = front;
   whole = λ e read rest first told now told_page. absurd (cc);
+  page_at_fault = λ e read rest first told now told_page. absurd (cc);
+  log_grows = grows;
+  scripted = λ e script before entries told told_log now_log. absurd (cc);
   read_fault = λ e. absurd (cc);
   write_fault = λ e. rose refl;
   too_much = λ e script told. absurd (cc);
   not_too_much = λ e. short;
 }
-ends_by_sink sink_fault.OutOfMemory how left0 left taken0 taken page0 rf0 rf wf0 wf is rose front short = record {
+ends_by_sink sink_fault.OutOfMemory how start finish is rose front short grows = record {
   usage = λ e. cc;
   replied = λ e script first told told_page. absurd (cc);
   to_the_end = λ e script told. absurd (cc);
+  page_at_end = λ e script first told told_page. absurd (cc);
   front = front;
   whole = λ e read rest first told now told_page. absurd (cc);
+  page_at_fault = λ e read rest first told now told_page. absurd (cc);
+  log_grows = grows;
+  scripted = λ e script before entries told told_log now_log. absurd (cc);
   read_fault = λ e. absurd (cc);
   write_fault = λ e. absurd (cc);
   too_much = λ e script told. absurd (cc);
   not_too_much = λ e. short;
 }
 
+-- The whole lines of the bytes that were read.
+read_lines : {start now : Moment} {read : ℕ} {begun : List ℕ} → Stands start now read begun → (bytes rest : List ℕ) → start.left ≡ Some (bytes ++ rest) → now.left ≡ Some rest → take read (bytes ++ rest) ≡ bytes
+read_lines {start} {now} {read} {begun} stands bytes rest told left_now =
+    let left_is : drop read (bytes ++ rest) ≡ rest = same_Some _ _ (sym (stands.left_is (bytes ++ rest) told) ∙ left_now) in
+    append_cancel_right (take read (bytes ++ rest)) bytes rest (ap (λ (r : List ℕ). take read (bytes ++ rest) ++ r) (sym left_is) ∙ take-append-drop read (bytes ++ rest))
+
 -- A run whose source failed: the sink has taken the replies to the lines that are whole, and no more.
-pub ends_by_source : {left0 left taken0 taken : Option (List ℕ)} {page0 page : Option Contents} {read : ℕ} {begun : List ℕ} (left' : Option (List ℕ)) (rf0 rf wf0 wf : ℕ) → Stands left0 left taken0 taken page0 page read begun → read < 2 ^ 32 → left' ≡ left → Rose rf0 rf → Ends status.ReadFault left0 left' taken0 taken page0 rf0 rf wf0 wf
-ends_by_source {left0} {left} {taken0} {taken} {page0} {page} {read} {begun} left' rf0 rf wf0 wf stands below same rose = record {
+pub ends_by_source : {start now : Moment} {read : ℕ} {begun : List ℕ} → Stands start now read begun → read < 2 ^ 32 → (read_faults : ℕ) → Rose start.read_faults read_faults → Ends status.ReadFault start (record now { read_faults = read_faults })
+ends_by_source {start} {now} {read} {begun} stands below read_faults rose = record {
   usage = λ e. cc;
   replied = λ e script first told told_page. absurd (cc);
   to_the_end = λ e script told. absurd (cc);
+  page_at_end = λ e script first told told_page. absurd (cc);
   front = front_so_far stands;
-  whole = λ e bytes rest first told now told_page.
-      let left_is : drop read (bytes ++ rest) ≡ rest = same_Some _ _ (sym (stands.left_is (bytes ++ rest) told) ∙ sym same ∙ now) in
-      let are : take read (bytes ++ rest) ≡ bytes = append_cancel_right (take read (bytes ++ rest)) bytes rest (ap (λ (r : List ℕ). take read (bytes ++ rest) ++ r) (sym left_is) ∙ take-append-drop read (bytes ++ rest)) in
-      rw are at (stands.taken_is (bytes ++ rest) first told told_page);
+  whole = λ e bytes rest first told left_now told_page. rw (read_lines stands bytes rest told left_now) at (taken_now stands (bytes ++ rest) first told told_page);
+  page_at_fault = λ e bytes rest first told left_now told_page. rw (read_lines stands bytes rest told left_now) at (page_now stands (bytes ++ rest) first told told_page);
+  log_grows = stands.log_grows;
+  scripted = λ e script before entries told told_log now_log. absurd (cc);
   read_fault = λ e. rose;
   write_fault = λ e. absurd (cc);
   too_much = λ e script told. absurd (cc);
-  not_too_much = λ e script told. rw same (short_so_far stands below script told);
+  not_too_much = λ e. short_so_far stands below;
 }
 
 -- A run that has read all that it may.
-pub ends_too_much : {left0 left taken0 taken : Option (List ℕ)} {page0 page : Option Contents} {read : ℕ} {begun : List ℕ} (left' : Option (List ℕ)) (bytes : List ℕ) (rf0 rf wf0 wf : ℕ) → Stands left0 left taken0 taken page0 page read begun → Read left bytes left' → read + length bytes ≡ 2 ^ 32 → Ends status.TooMuch left0 left' taken0 taken page0 rf0 rf wf0 wf
-ends_too_much {left0} {left} {taken0} {taken} {page0} {page} {read} {begun} left' bytes rf0 rf wf0 wf stands reads full = record {
+pub ends_too_much : {start now : Moment} {read : ℕ} {begun : List ℕ} → Stands start now read begun → (left : Option (List ℕ)) (read_faults : ℕ) (bytes : List ℕ) → Read now.left bytes left → read + length bytes ≡ 2 ^ 32 → Ends status.TooMuch start (record now { left = left; read_faults = read_faults })
+ends_too_much {start} {now} {read} {begun} stands left read_faults bytes reads full = record {
   usage = λ e. cc;
   replied = λ e script first told told_page. absurd (cc);
   to_the_end = λ e script told. absurd (cc);
+  page_at_end = λ e script first told told_page. absurd (cc);
   front = front_so_far stands;
-  whole = λ e read' rest first told now told_page. absurd (cc);
+  whole = λ e read' rest first told left_now told_page. absurd (cc);
+  page_at_fault = λ e read' rest first told left_now told_page. absurd (cc);
+  log_grows = stands.log_grows;
+  scripted = λ e script before entries told told_log now_log. absurd (cc);
   read_fault = λ e. absurd (cc);
   write_fault = λ e. absurd (cc);
   too_much = λ e script told.
-      let more = left_more left left' bytes script read (stands.left_is script told) reads in
+      let more = left_more now.left left bytes script read (stands.left_is script told) reads in
       let within = read_within bytes more.0 script read (stands.within script told) more.2 in
       (rw full at within, rw full at (more.1 ∙ ap Some (sym (read_rest bytes more.0 script read more.2))));
   not_too_much = λ ne. absurd (ne refl);
 }
 
+-- The text that the entries of a log make of a script is the one that was taken.
+scripted_whole : (taken0 taken : Option (List ℕ)) {page0 page : Option Contents} {log0 log : Option (List Entry)} (script : List ℕ) (before entries : List Entry) → log0 ≡ Some before → log ≡ Some (before ++ entries) → Hands (Answers (lines script) page0 page log0 log) taken0 taken → IsSomeAnd (scripted_replies script entries) (TakesAll taken0 taken)
+scripted_whole taken0 taken {page0} {page} {log0} {log} script before entries told_log now_log (text, took, answers) =
+    let made = answers.by_log (before ++ entries) now_log in
+    let same : made.follows.0 ≡ before = same_Some _ _ (sym made.follows.1 ∙ told_log) in
+    let are : made.entries ≡ entries = append_cancel_left before made.entries entries (ap (λ (b : List Entry). b ++ made.entries) (sym same) ∙ sym made.follows.2) in
+    let makes : scripted_lines (lines script) entries ≡ Some (record { text = text; rest = [] }) = ap (scripted_lines (lines script)) (sym (append-nil made.entries ∙ are)) ∙ made.makes [] in
+    rw makes took
+
 -- A run that came to its end.
-pub ends_done : {left0 left taken0 taken : Option (List ℕ)} {page0 page : Option Contents} {read : ℕ} {begun : List ℕ} (left' taken' : Option (List ℕ)) (rf0 rf wf0 wf : ℕ) → Stands left0 left taken0 taken page0 page read begun → read < 2 ^ 32
-    → Read left [] left' → IfSome left' (λ rest. rest ≡ [])
-    → ((now : Contents) → page ≡ Some now → TakesAll taken taken' (replies_from now (lines begun)))
-    → Ends status.Done left0 left' taken0 taken' page0 rf0 rf wf0 wf
-ends_done {left0} {left} {taken0} {taken} {page0} {page} {read} {begun} left' taken' rf0 rf wf0 wf stands below reads ended all = record {
+pub ends_done : {start now : Moment} {read : ℕ} {begun : List ℕ} → Stands start now read begun → read < 2 ^ 32 → (finish : Moment)
+    → Read now.left [] finish.left → IfSome finish.left (λ rest. rest ≡ [])
+    → Hands (Answers (lines begun) now.page finish.page now.log finish.log) now.taken finish.taken
+    → Grows now.log finish.log
+    → Ends status.Done start finish
+ends_done {start} {now} {read} {begun} stands below finish reads ended handed grows = record {
   usage = λ e. cc;
-  replied = λ e. all_in_last left' taken' stands reads ended all;
-  to_the_end = λ e script told. (at_end left' stands reads ended script told).0;
+  replied = λ e script first told told_page. replied script first told told_page;
+  to_the_end = λ e script told. (at_end stands finish reads ended script told).0;
+  page_at_end = λ e script first told told_page. (all_in_last stands finish reads ended handed script told).2.moves first told_page;
   front = λ script first told told_page.
-      front_as taken0 taken' _ _ (sym (append-nil _)) (all_is_front taken0 taken' _ [] (all_in_last left' taken' stands reads ended all script first told told_page));
-  whole = λ e read' rest first told now told_page. absurd (cc);
+      front_as start.taken finish.taken _ _ (sym (append-nil _)) (all_is_front start.taken finish.taken _ [] (replied script first told told_page));
+  whole = λ e read' rest first told left_now told_page. absurd (cc);
+  page_at_fault = λ e read' rest first told left_now told_page. absurd (cc);
+  log_grows = grows_both stands.log_grows grows;
+  scripted = λ e script before entries told told_log now_log. scripted_whole start.taken finish.taken script before entries told_log now_log (all_in_last stands finish reads ended handed script told);
   read_fault = λ e. absurd (cc);
   write_fault = λ e. absurd (cc);
   too_much = λ e script told. absurd (cc);
   not_too_much = λ e script told.
-      let end = at_end left' stands reads ended script told in
+      let end = at_end stands finish reads ended script told in
       (read, below, stands.within script told, end.0 ∙ ap Some (sym end.1));
 }
+  where
+    replied : (script : List ℕ) (first : Contents) → start.left ≡ Some script → start.page ≡ Some first → TakesAll start.taken finish.taken (replies_from first (lines script))
+    replied script first told told_page = let all = all_in_last stands finish reads ended handed script told in rw (← all.2.by_page first told_page) all.1
 
 -- What a run without words owes, by how it ended.
 
@@ -208,8 +250,8 @@ first_told None is told = absurd (false≢true told)
 first_told (Some p) is told = ap Some is
 
 -- where no count rose and the input is short, only memory can be wanting
-pub ends_complete : {left0 left taken0 taken : Option (List ℕ)} {page0 : Option Contents} {rf0 rf wf0 wf : ℕ} (how : Status) → Ends how left0 left taken0 taken page0 rf0 rf wf0 wf
-    → (Rose rf0 rf → ⊥) → (Rose wf0 wf → ⊥) → (script : List ℕ) → left0 ≡ Some script → length script < 2 ^ 32 → (how ≡ status.Done) ⊎ (how ≡ status.Memory)
+pub ends_complete : {start finish : Moment} (how : Status) → Ends how start finish
+    → (Rose start.read_faults finish.read_faults → ⊥) → (Rose start.write_faults finish.write_faults → ⊥) → (script : List ℕ) → start.left ≡ Some script → length script < 2 ^ 32 → (how ≡ status.Done) ⊎ (how ≡ status.Memory)
 ends_complete status.Done ends calm_source calm_sink script told short = inl refl
 ends_complete status.Usage ends calm_source calm_sink script told short = absurd (ends.usage refl)
 ends_complete status.ReadFault ends calm_source calm_sink script told short = absurd (calm_source (ends.read_fault refl))
@@ -218,9 +260,9 @@ ends_complete status.Memory ends calm_source calm_sink script told short = inr r
 ends_complete status.TooMuch ends calm_source calm_sink script told short = let long = (ends.too_much refl script told).0 in absurd (omega arith)
 
 -- as many bytes as a run may read, and it has read too much
-pub ends_full : {left0 left taken0 taken : Option (List ℕ)} {page0 : Option Contents} {rf0 rf wf0 wf : ℕ} (how : Status) → Ends how left0 left taken0 taken page0 rf0 rf wf0 wf
-    → (script : List ℕ) → left0 ≡ Some script → 2 ^ 32 ≤ length script → left ≡ Some (drop (2 ^ 32) script) → how ≡ status.TooMuch
-ends_full {left0} {left} how ends script told long full = elim (too_much_or_not how) [
+pub ends_full : {start finish : Moment} (how : Status) → Ends how start finish
+    → (script : List ℕ) → start.left ≡ Some script → 2 ^ 32 ≤ length script → finish.left ≡ Some (drop (2 ^ 32) script) → how ≡ status.TooMuch
+ends_full {start} {finish} how ends script told long full = elim (too_much_or_not how) [
   | inl is ↦ is
   | inr isnt ↦
       let short = ends.not_too_much isnt script told in
@@ -229,12 +271,12 @@ ends_full {left0} {left} how ends script told long full = elim (too_much_or_not 
       absurd (omega (arith, sizes, short.1, short.2, long))
 ]
 
--- What a sink took of the replies that are due, by what was handed to it.
+-- What a sink took, by what was handed to it.
 
-pub handed_all : {T E : Type 0} (r : Result T E) (page : Option Contents) (before after : Option (List ℕ)) (written : List ℕ) (due : Contents → List ℕ) → OnOk r (TakesAll before after written) → ((now : Contents) → page ≡ Some now → written ≡ due now) → OnOk r ((now : Contents) → page ≡ Some now → TakesAll before after (due now))
-handed_all (Ok x) page before after written due all is = λ now told. all_as before after written (due now) (sym (is now told)) all
-handed_all (Err e) page before after written due all is = tt
+pub handed_all : {T E : Type 0} (r : Result T E) (asked : List (List ℕ)) (page0 page : Option Contents) (log0 log : Option (List Entry)) (before after : Option (List ℕ)) (written : List ℕ) → OnOk r (TakesAll before after written) → Answers asked page0 page log0 log written → OnOk r (Hands (Answers asked page0 page log0 log) before after)
+handed_all (Ok x) asked page0 page log0 log before after written took answers = (written, took, answers)
+handed_all (Err e) asked page0 page log0 log before after written took answers = tt
 
-pub handed_front : {T E : Type 0} (r : Result T E) (page : Option Contents) (before after : Option (List ℕ)) (written : List ℕ) (due : Contents → List ℕ) → TakesFront before after written → ((now : Contents) → page ≡ Some now → written ≡ due now) → OnErr r ((now : Contents) → page ≡ Some now → TakesFront before after (due now))
-handed_front (Ok x) page before after written due front is = tt
-handed_front (Err e) page before after written due front is = λ now told. front_as before after written (due now) (sym (is now told)) front
+pub handed_front : {T E : Type 0} (r : Result T E) (asked : List (List ℕ)) (page : Option Contents) (before after : Option (List ℕ)) (written : List ℕ) → TakesFront before after written → ((was : Contents) → page ≡ Some was → written ≡ replies_from was asked) → OnErr r ((was : Contents) → page ≡ Some was → TakesFront before after (replies_from was asked))
+handed_front (Ok x) asked page before after written front is = tt
+handed_front (Err e) asked page before after written front is = λ was told. front_as before after written (replies_from was asked) (sym (is was told)) front

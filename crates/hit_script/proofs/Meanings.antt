@@ -1,49 +1,23 @@
--- What a line means, case by case.
-use Rattle.std.proofs.Common.{◌≡◌, ℕ, ◌^◌, ◌<◌, ◌≤◌, true, false, cond, not, ◌&&◌, List, [], length, Option, None, Err, inl, inr, refl}
-use Rattle.std.specs.Prelude.{nat_lt}
-use Rattle.std.specs.Str.{IsUtf8, is_utf8}
-use Rattle.std.proofs.lemmas.Str.{IsUtf8-from_is_utf8, is_utf8-from_IsUtf8}
-use Rattle.std.proofs.lemmas.Bool.{lt-ltb, le-ltb, and_parts, and_cases, not-true, not-false, both_ways, cases_Bool}
-use Rattle.serde_json.specs.Data.{Data}
-use Rattle.serde_json.specs.Read.{read}
-use Rattle.box_tree.specs.Contents.{Contents}
-use Rattle.hit_script.specs.Lines.{is_blank}
-use Rattle.hit_script.specs.Script.{answer_to, answer_to_command}
-use Rattle.hit_script.specs.Command.{is_long, json_reading, command_or_fault, meaning}
-use Rattle.hit_script.specs.declared.command.LineFault.TheVariants as fault
+-- What a line asks for, case by case.
+use Rattle.std.proofs.Common.{◌≡◌, ℕ, true, false, not, ◌&&◌, List, Some, None, inl, inr, refl}
+use Rattle.std.proofs.lemmas.Bool.{and_parts, and_cases, not-true, not-false, both_ways, cases_Bool}
+use Rattle.script_lines.specs.Blank.{is_blank}
+use Rattle.script_lines.specs.Command.{is_long, meaning}
+use Rattle.hit_script.specs.Script.{asked_by}
 
--- bytes that are UTF-8 have the reading of their text
-pub reading_of_text : (line : List ℕ) → IsUtf8 line → json_reading line ≡ read line
-unfolding json_reading
-reading_of_text line text = rw (is_utf8-from_IsUtf8 line text) refl
-
--- other bytes have none
-pub reading_of_bytes : (line : List ℕ) → (IsUtf8 line → ⊥) → json_reading line ≡ None
-unfolding json_reading
-reading_of_bytes line no_text =
-    elim (is_utf8 line) as (λ b. is_utf8 line ≡ b → cond b (read line) None ≡ None) [ true ↦ λ e. absurd (no_text (IsUtf8-from_is_utf8 line e)) | false ↦ λ e. refl ] refl
-
-pub meaning_long : (line : List ℕ) → 2 ^ 20 < length line → meaning line ≡ Err fault.Long
-unfolding meaning
-meaning_long line long = let test : nat_lt (2 ^ 20) (length line) ≡ true = lt-ltb (2 ^ 20) (length line) long in rw test refl
-
-pub meaning_of : (line : List ℕ) (reading : Option Data) → length line ≤ 2 ^ 20 → json_reading line ≡ reading → meaning line ≡ command_or_fault reading
-unfolding meaning
-meaning_of line reading short is = let test : nat_lt (2 ^ 20) (length line) ≡ false = le-ltb (2 ^ 20) (length line) short in rw (test, is) refl
-
--- a blank line that isn't too long is passed over
-pub answer_passed_over : (page : Contents) (line : List ℕ) → (not (is_long line) && is_blank line) ≡ true → answer_to page line ≡ record { reply = []; page = page }
-unfolding answer_to
-answer_passed_over page line passed =
+-- a blank line that isn't too long asks for nothing
+pub asks_nothing : (line : List ℕ) → (not (is_long line) && is_blank line) ≡ true → asked_by line ≡ None
+unfolding asked_by
+asks_nothing line passed =
     let parts = and_parts (not (is_long line)) (is_blank line) passed in
     let short : is_long line ≡ false = not-true (is_long line) parts.0 in
     let blank : is_blank line ≡ true = parts.1 in
     rw (short, blank) refl
 
--- every other line is answered by what it means
-pub answer_read : (page : Contents) (line : List ℕ) → (not (is_long line) && is_blank line) ≡ false → answer_to page line ≡ answer_to_command page (meaning line)
-unfolding answer_to meaning
-answer_read page line read_on =
+-- every other line asks for what it means
+pub asks_meaning : (line : List ℕ) → (not (is_long line) && is_blank line) ≡ false → asked_by line ≡ Some (meaning line)
+unfolding asked_by meaning
+asks_meaning line read_on =
     elim (cases_Bool (is_long line)) [
       | inl long ↦ rw long refl
       | inr short ↦ elim (and_cases (not (is_long line)) (is_blank line) read_on) [

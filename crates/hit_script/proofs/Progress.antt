@@ -5,11 +5,16 @@ use Rattle.std.proofs.lemmas.List.{append-nil, take_at, drop_at, drop-drop, leng
 use Rattle.std.proofs.Math.Nat.{min-le_right}
 use Rattle.std.proofs.Math.Seq.{take-add, take-append-add}
 use Rattle.box_tree.specs.Contents.{Contents}
+use Rattle.hit_script.specs.Answered.{Answers, Hands}
+use Rattle.hit_script.specs.Ending.{Moment}
 use Rattle.hit_script.specs.Ends.{Read, Rose, TakesAll, TakesFront}
 use Rattle.hit_script.specs.Lines.{lines, whole_lines, unfinished}
+use Rattle.hit_script.specs.Log.{Entry, Grows}
 use Rattle.hit_script.specs.Script.{replies_from, page_behind}
+use Rattle.hit_script.proofs.Answering.{answers_nothing, answers_both}
 use Rattle.hit_script.proofs.LineLaws.{unfinished_more, no_lines, nothing_unfinished, nothing_whole}
-use Rattle.hit_script.proofs.Runs.{replies_from-append, page_behind-append, lines_more}
+use Rattle.hit_script.proofs.Logs.{grows_same, grows_both}
+use Rattle.hit_script.proofs.Runs.{lines_more}
 
 -- What a sink takes, one part after another.
 
@@ -31,23 +36,40 @@ front_behind a b c xs ys more all front =
     rw (take-append-add xs (ys ++ more) n, take-append-le n ys more (min-le_right front.0 (length ys)), take_min front.0 ys) refl in
     (length xs + n, rw cut (takes_both a b c xs (take front.0 ys) all front.1))
 
--- A run that began with these bytes left, these bytes taken and this page has read so many bytes: the sink has taken the
--- replies to the lines that are whole, and the line that is only begun is kept.
-pub record Stands (left0 left taken0 taken : Option (List ℕ)) (page0 page : Option Contents) (read : ℕ) (begun : List ℕ) : Type 0 where
-  pub left_is : (script : List ℕ) → left0 ≡ Some script → left ≡ Some (drop read script)
-  pub within : (script : List ℕ) → left0 ≡ Some script → read ≤ length script
-  pub begun_is : (script : List ℕ) → left0 ≡ Some script → begun ≡ unfinished (take read script)
-  pub page_is : (script : List ℕ) (first : Contents) → left0 ≡ Some script → page0 ≡ Some first → page ≡ Some (page_behind first (lines (whole_lines (take read script))))
-  pub taken_is : (script : List ℕ) (first : Contents) → left0 ≡ Some script → page0 ≡ Some first → TakesAll taken0 taken (replies_from first (lines (whole_lines (take read script))))
+-- What was handed to a sink for some lines, and then for more.
+pub hands_both : (xs ys : List (List ℕ)) (first : Option (List ℕ)) {page0 page1 page2 : Option Contents} {log0 log1 log2 : Option (List Entry)} {second third : Option (List ℕ)} → Hands (Answers xs page0 page1 log0 log1) first second → Hands (Answers ys page1 page2 log1 log2) second third → Hands (Answers (xs ++ ys) page0 page2 log0 log2) first third
+hands_both xs ys first {page0} {page1} {page2} {log0} {log1} {log2} {second} {third} (text, took, answers) (more, took_more, others) =
+    (text ++ more, takes_both first second third text more took took_more, answers_both xs ys answers others)
 
-pub stands_first : (left taken : Option (List ℕ)) (page : Option Contents) → Stands left left taken taken page page 0 []
-stands_first left taken page = record {
+-- A run that has come from the start to here has read so many bytes: the sink has taken the replies to the lines that are
+-- whole, the line that is only begun is kept, and no count of faults fell.
+pub record Stands (start now : Moment) (read : ℕ) (begun : List ℕ) : Type 0 where
+  pub left_is : (script : List ℕ) → start.left ≡ Some script → now.left ≡ Some (drop read script)
+  pub within : (script : List ℕ) → start.left ≡ Some script → read ≤ length script
+  pub begun_is : (script : List ℕ) → start.left ≡ Some script → begun ≡ unfinished (take read script)
+  pub answered : (script : List ℕ) → start.left ≡ Some script → Hands (Answers (lines (whole_lines (take read script))) start.page now.page start.log now.log) start.taken now.taken
+  pub log_grows : Grows start.log now.log
+  pub read_faults : start.read_faults ≤ now.read_faults
+  pub write_faults : start.write_faults ≤ now.write_faults
+
+pub stands_first : (start : Moment) → Stands start start 0 []
+stands_first start = record {
   left_is = λ script told. told;
   within = λ script told. omega arith;
   begun_is = λ script told. sym nothing_unfinished;
-  page_is = λ script first told told_page. rw (nothing_whole, no_lines) told_page;
-  taken_is = λ script first told told_page. rw (nothing_whole, no_lines) (takes_nothing taken);
+  answered = λ script told. rw (nothing_whole, no_lines) ([], takes_nothing start.taken, answers_nothing start.page start.log);
+  log_grows = grows_same start.log;
+  read_faults = omega arith;
+  write_faults = omega arith;
 }
+
+-- The page, and what the sink has taken, where the page at the start is told.
+module _ {start now : Moment} {read : ℕ} {begun : List ℕ} (stands : Stands start now read begun) (script : List ℕ) (first : Contents) (told : start.left ≡ Some script) (told_page : start.page ≡ Some first) where
+  pub page_now : now.page ≡ Some (page_behind first (lines (whole_lines (take read script))))
+  page_now = (stands.answered script told).2.moves first told_page
+
+  pub taken_now : TakesAll start.taken now.taken (replies_from first (lines (whole_lines (take read script))))
+  taken_now = let handed = stands.answered script told in rw (← handed.2.by_page first told_page) handed.1
 
 -- The bytes that are read next.
 
@@ -66,32 +88,33 @@ read_within bytes rest script read within split =
     let count : length script - read ≡ length bytes + length rest = sym (length-drop read script) ∙ ap length split ∙ length-append bytes rest in
     omega arith
 
-pub stands_more : {left0 left taken0 taken : Option (List ℕ)} {page0 page : Option Contents} {read : ℕ} {begun : List ℕ} (left' taken' : Option (List ℕ)) (page' : Option Contents) (bytes begun' : List ℕ)
-    → Stands left0 left taken0 taken page0 page read begun
-    → Read left bytes left'
+pub stands_more : {start now : Moment} {read : ℕ} {begun : List ℕ} (next : Moment) (bytes begun' : List ℕ)
+    → Stands start now read begun
+    → Read now.left bytes next.left
     → begun' ≡ unfinished (begun ++ bytes)
-    → ((now : Contents) → page ≡ Some now → page' ≡ Some (page_behind now (lines (whole_lines (begun ++ bytes)))))
-    → ((now : Contents) → page ≡ Some now → TakesAll taken taken' (replies_from now (lines (whole_lines (begun ++ bytes)))))
-    → Stands left0 left' taken0 taken' page0 page' (read + length bytes) begun'
-stands_more {left0} {left} {taken0} {taken} {page0} {page} {read} {begun} left' taken' page' bytes begun' stands reads goes_on moves takes = record {
+    → Hands (Answers (lines (whole_lines (begun ++ bytes))) now.page next.page now.log next.log) now.taken next.taken
+    → Grows now.log next.log
+    → now.read_faults ≤ next.read_faults
+    → now.write_faults ≤ next.write_faults
+    → Stands start next (read + length bytes) begun'
+stands_more {start} {now} {read} {begun} next bytes begun' stands reads goes_on handed grows reads_on writes_on = record {
   left_is = λ script told.
-      let more = left_more left left' bytes script read (stands.left_is script told) reads in
+      let more = left_more now.left next.left bytes script read (stands.left_is script told) reads in
       more.1 ∙ ap Some (sym (read_rest bytes more.0 script read more.2));
   within = λ script told.
-      let more = left_more left left' bytes script read (stands.left_is script told) reads in
+      let more = left_more now.left next.left bytes script read (stands.left_is script told) reads in
       read_within bytes more.0 script read (stands.within script told) more.2;
   begun_is = λ script told.
-      let more = left_more left left' bytes script read (stands.left_is script told) reads in
+      let more = left_more now.left next.left bytes script read (stands.left_is script told) reads in
       rw (goes_on, stands.begun_is script told, read_front bytes more.0 script read more.2) (sym (unfinished_more (take read script) bytes));
-  page_is = λ script first told told_page.
-      let more = left_more left left' bytes script read (stands.left_is script told) reads in
-      let moved = moves _ (stands.page_is script first told told_page) in
-      rw (read_front bytes more.0 script read more.2, lines_more (take read script) bytes, page_behind-append, ← stands.begun_is script told) moved;
-  taken_is = λ script first told told_page.
-      let more = left_more left left' bytes script read (stands.left_is script told) reads in
-      let took = takes _ (stands.page_is script first told told_page) in
-      rw (read_front bytes more.0 script read more.2, lines_more (take read script) bytes, replies_from-append, ← stands.begun_is script told)
-      (takes_both taken0 taken taken' _ _ (stands.taken_is script first told told_page) took);
+  answered = λ script told.
+      let more = left_more now.left next.left bytes script read (stands.left_is script told) reads in
+      let so_far = lines (whole_lines (take read script)) in
+      let both = hands_both so_far (lines (whole_lines (begun ++ bytes))) start.taken (stands.answered script told) handed in
+      rw (read_front bytes more.0 script read more.2, lines_more (take read script) bytes, ← stands.begun_is script told) both;
+  log_grows = grows_both stands.log_grows grows;
+  read_faults = omega (arith, stands.read_faults, reads_on);
+  write_faults = omega (arith, stands.write_faults, writes_on);
 }
 
 -- A count that rose after it did not fall rose.

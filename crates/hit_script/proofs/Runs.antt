@@ -10,7 +10,7 @@ use Rattle.hit_script.proofs.LineLaws.{whole_and_unfinished, whole_lines_more, l
 nat_apart : {n : ℕ} → suc n ≡ 0 → ⊥
 nat_apart e = omega arith
 
-some_length : (line : List ℕ) → eqb (length line) 0 ≡ false → 0 < length line
+pub some_length : (line : List ℕ) → eqb (length line) 0 ≡ false → 0 < length line
 some_length [] some = absurd (both_ways true some refl)
 some_length (b ∷ bs) some = omega arith
 
@@ -37,9 +37,3 @@ all_lines_more bytes more =
 pub lines_of_nothing : (line : List ℕ) → eqb (length line) 0 ≡ true → lines line ≡ []
 lines_of_nothing [] empty = no_lines
 lines_of_nothing (b ∷ bs) empty = absurd (nat_apart (eqb-true (length (b ∷ bs)) 0 empty))
-
-pub replies_last : (page : Contents) (line : List ℕ) → has_newline line ≡ false → eqb (length line) 0 ≡ false → replies_from page (lines line) ≡ (answer_to page line).reply
-replies_last page line none some = rw (lines_last line none (some_length line some), append-nil) refl
-
-pub page_last : (page : Contents) (line : List ℕ) → has_newline line ≡ false → eqb (length line) 0 ≡ false → page_behind page (lines line) ≡ (answer_to page line).page
-page_last page line none some = rw (lines_last line none (some_length line some)) refl

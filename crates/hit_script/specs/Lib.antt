@@ -1,7 +1,8 @@
 pub mod Ends
 pub mod Lines
 pub mod Outcome
-pub mod Command
-pub mod Reply
 pub mod Script
+pub mod Log
+pub mod Answered
 pub mod Ending
+pub mod Canned

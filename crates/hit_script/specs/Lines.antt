@@ -1,5 +1,4 @@
 -- The lines of a script.
-use Rattle.std.specs.List.{list_all}
 use Rattle.std.specs.Prelude.{ℕ, List, [], ◌∷◌, Bool, false, ◌||◌, ◌==◌, if◌then◌else◌}
 
 -- a byte put before the first of some lines, where there is none as a line of its own
@@ -25,11 +24,3 @@ whole_lines (byte ∷ bytes) = if has_newline (byte ∷ bytes) then byte ∷ who
 unfoldable pub unfinished : List ℕ → List ℕ
 unfinished [] = []
 unfinished (byte ∷ bytes) = if has_newline (byte ∷ bytes) then unfinished bytes else byte ∷ bytes
-
--- a space, a tab or a carriage return
-abbrev pub is_blank_byte : ℕ → Bool
-is_blank_byte byte = (byte == 32) || (byte == 9) || (byte == 13)
-
--- Only spaces, tabs and carriage returns.
-abbrev pub is_blank : List ℕ → Bool
-is_blank line = list_all is_blank_byte line

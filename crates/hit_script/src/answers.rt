@@ -1,18 +1,19 @@
 // One line, from its bytes to its reply.
-ghost use Rattle.std.specs.Prelude.{◌≡◌, ◌≢◌, ◌++◌, ◌&&◌, not, Option, Some, Err, IfOk, OnOk};
-ghost use Rattle.box_tree.specs.Contents.{Contents, IsWithin};
-ghost use Rattle.box_tree.specs.Edited.{IsInRange, first_fault};
-ghost use Rattle.point_query.specs.Elements.{elements_from_point};
-ghost use Rattle.hit_script.specs.Lines.{is_blank as blank};
-ghost use Rattle.hit_script.specs.Command.{is_long, IsAskable};
-ghost use Rattle.hit_script.specs.Reply.{hit_line};
-ghost use Rattle.hit_script.specs.Script.{answer_to, answer_to_edit, answer_to_command};
+ghost use Rattle.std.specs.Prelude.{◌≡◌, ◌≢◌, ◌++◌, ◌&&◌, ◌∷◌, [], not, Ok, Err, IfOk, OnOk};
+ghost use Rattle.box_tree.specs.Contents.{IsWithin};
+ghost use Rattle.box_tree.specs.Edited.{IsInRange};
+ghost use Rattle.script_lines.specs.Blank.{is_blank as blank};
+ghost use Rattle.script_lines.specs.Command.{is_long, IsAskable};
+ghost use Rattle.script_lines.specs.declared.command.Command.TheVariants.{Edit as edit_command, Hit as hit_command, Top as top_command};
+ghost use Rattle.script_lines.specs.Reply.{line_fault_line};
+ghost use Rattle.hit_script.specs.Answered.{Answers, Appends, Replies};
+ghost use Rattle.hit_script.specs.Log.{Grows};
 
-use crate::command::{Command, LONGEST_LINE, LineFault, command_of, is_blank};
 use crate::desks::Desk;
-use crate::reply::{OutOfMemory, Reply, print};
+use crate::memory::OutOfMemory;
 use box_tree::{Done, Edit, EditFault};
 use fractions::{Ledger, Steps};
+use script_lines::{Command, LONGEST_LINE, LineFault, Reply, command_of, is_blank, print};
 use std::alloc::Global;
 
 fn answer_edit<D: Desk, L: Ledger>(
@@ -22,17 +23,16 @@ fn answer_edit<D: Desk, L: Ledger>(
     out: &mut Vec<u8>,
 ) -> Result<(), OutOfMemory>
     requires { IsInRange edit.now }
-    ensures page { OnOk result ((page : Contents) → D.page desk.old ≡ Some page
-        → D.page desk.new ≡ Some (answer_to_edit page edit.now (first_fault page edit.now)).page) }
-    ensures reply { OnOk result ((page : Contents) → D.page desk.old ≡ Some page
-        → out.new.items ≡ out.old.items ++ (answer_to_edit page edit.now (first_fault page edit.now)).reply) }
+    ensures log { Grows (D.log desk.old) (D.log desk.new) }
+    ensures reply { OnOk result (Appends (Replies (Ok (edit_command edit.now)) (D.page desk.old) (D.page desk.new) (D.log desk.old) (D.log desk.new)) out.old.items out.new.items) }
 {
     match desk.edit(edit, steps) {
-        Ok(Done::Node { id }) => print(&Reply::Node(id), out),
-        Ok(Done::Done) => print(&Reply::Done, out),
-        Err(EditFault::OutOfMemory) => Err(OutOfMemory),
-        Err(why) => print(&Reply::Edit(why), out),
+        Ok(Done::Node { id }) => print(&Reply::Node(id), out)?,
+        Ok(Done::Done) => print(&Reply::Done, out)?,
+        Err(EditFault::OutOfMemory) => return Err(OutOfMemory),
+        Err(why) => print(&Reply::Edit(why), out)?,
     }
+    Ok(())
 }
 
 fn answer_hit<D: Desk, L: Ledger>(
@@ -45,15 +45,41 @@ fn answer_hit<D: Desk, L: Ledger>(
 ) -> Result<(), OutOfMemory>
     requires x { IsWithin 26 x }
     requires y { IsWithin 26 y }
-    ensures page { D.page desk.new ≡ D.page desk.old }
-    ensures reply { OnOk result ((page : Contents) → D.page desk.old ≡ Some page
-        → out.new.items ≡ out.old.items ++ hit_line (elements_from_point page x y)) }
+    ensures log { Grows (D.log desk.old) (D.log desk.new) }
+    ensures reply { OnOk result (Appends (Replies (Ok (hit_command x y)) (D.page desk.old) (D.page desk.new) (D.log desk.old) (D.log desk.new)) out.old.items out.new.items) }
 {
     let ids = desk.hit(alloc, x, y, steps)?;
-    print(&Reply::Hit(&ids), out)
+    Ok(print(&Reply::Hit(&ids), out)?)
+}
+
+fn answer_top<D: Desk, L: Ledger>(
+    alloc: Global,
+    x: i64,
+    y: i64,
+    desk: &mut D,
+    steps: &mut Steps<L>,
+    out: &mut Vec<u8>,
+) -> Result<(), OutOfMemory>
+    requires x { IsWithin 26 x }
+    requires y { IsWithin 26 y }
+    ensures log { Grows (D.log desk.old) (D.log desk.new) }
+    ensures reply { OnOk result (Appends (Replies (Ok (top_command x y)) (D.page desk.old) (D.page desk.new) (D.log desk.old) (D.log desk.new)) out.old.items out.new.items) }
+{
+    let id = desk.top(alloc, x, y, steps)?;
+    Ok(print(&Reply::Top(id), out)?)
 }
 
 // A want of memory in a line is one of the answer.
+fn answer_fault(why: LineFault, out: &mut Vec<u8>) -> Result<(), OutOfMemory>
+    ensures memory { OnOk result (why ≢ LineFault.OutOfMemory) }
+    ensures reply { OnOk result (out.new.items ≡ out.old.items ++ line_fault_line why) }
+{
+    match why {
+        LineFault::OutOfMemory => Err(OutOfMemory),
+        why => Ok(print(&Reply::Line(why), out)?),
+    }
+}
+
 fn answer_command<D: Desk, L: Ledger>(
     alloc: Global,
     asked: Result<Command, LineFault>,
@@ -63,16 +89,14 @@ fn answer_command<D: Desk, L: Ledger>(
 ) -> Result<(), OutOfMemory>
     requires { IfOk asked IsAskable }
     ensures memory { OnOk result (asked ≢ Err LineFault.OutOfMemory) }
-    ensures page { OnOk result ((page : Contents) → D.page desk.old ≡ Some page
-        → D.page desk.new ≡ Some (answer_to_command page asked).page) }
-    ensures reply { OnOk result ((page : Contents) → D.page desk.old ≡ Some page
-        → out.new.items ≡ out.old.items ++ (answer_to_command page asked).reply) }
+    ensures log { Grows (D.log desk.old) (D.log desk.new) }
+    ensures reply { OnOk result (Appends (Replies asked (D.page desk.old) (D.page desk.new) (D.log desk.old) (D.log desk.new)) out.old.items out.new.items) }
 {
     match asked {
         Ok(Command::Edit(edit)) => answer_edit(&edit, desk, steps, out),
         Ok(Command::Hit { x, y }) => answer_hit(alloc, x, y, desk, steps, out),
-        Err(LineFault::OutOfMemory) => Err(OutOfMemory),
-        Err(why) => print(&Reply::Line(why), out),
+        Ok(Command::Top { x, y }) => answer_top(alloc, x, y, desk, steps, out),
+        Err(why) => answer_fault(why, out),
     }
 }
 
@@ -84,7 +108,6 @@ fn is_passed_over(line: &[u8]) -> bool
 }
 
 /// Answers a line: its reply is put behind what `out` has.
-#[tactic(auto, using(crate::proofs::Meanings::answer_passed_over, crate::proofs::Meanings::answer_read))]
 pub fn answer<D: Desk, L: Ledger>(
     alloc: Global,
     line: &[u8],
@@ -92,10 +115,8 @@ pub fn answer<D: Desk, L: Ledger>(
     steps: &mut Steps<L>,
     out: &mut Vec<u8>,
 ) -> Result<(), OutOfMemory>
-    ensures page { OnOk result ((page : Contents) → D.page desk.old ≡ Some page
-        → D.page desk.new ≡ Some (answer_to page line.now).page) }
-    ensures reply { OnOk result ((page : Contents) → D.page desk.old ≡ Some page
-        → out.new.items ≡ out.old.items ++ (answer_to page line.now).reply) }
+    ensures log { Grows (D.log desk.old) (D.log desk.new) }
+    ensures reply { OnOk result (Appends (Answers (line.now ∷ []) (D.page desk.old) (D.page desk.new) (D.log desk.old) (D.log desk.new)) out.old.items out.new.items) }
 {
     if is_passed_over(line) {
         return Ok(());

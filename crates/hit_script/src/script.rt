@@ -1,10 +1,11 @@
 // The loop over the pieces of a script, and the top call.
-ghost use Rattle.std.specs.Prelude.{◌≡◌, ◌≢◌, ◌↔◌, ◌⊎◌, ℕ, List, [], ◌++◌, ◌+◌, ◌<◌, ◌≤◌, ◌^◌, Option, Some, IfSome, IsSome, length, drop};
-ghost use Rattle.hit_script.specs.Ending.{Ends};
+ghost use Rattle.std.specs.Prelude.{◌≡◌, ◌≢◌, ◌↔◌, ◌⊎◌, ℕ, List, [], ◌++◌, ◌+◌, ◌<◌, ◌≤◌, ◌^◌, Option, Some, IfSome, IsSome, IsSomeAnd, length, drop};
+ghost use Rattle.hit_script.specs.Ending.{Ends, Moment};
 ghost use Rattle.hit_script.specs.Ends.{Rose, TakesAll, TakesFront};
 ghost use Rattle.hit_script.specs.Lines.{whole_lines};
 ghost use Rattle.hit_script.specs.Outcome.{fault_status};
-ghost use Rattle.hit_script.specs.Script.{first_page, replies};
+ghost use Rattle.hit_script.specs.Log.{Entry, Grows, scripted_replies};
+ghost use Rattle.hit_script.specs.Script.{first_page, page_after, replies};
 
 use crate::desks::Desk;
 use crate::outcome::Status;
@@ -50,8 +51,9 @@ fn play<S: Source, K: Sink, D: Desk, L: Ledger>(
     desk: &mut D,
     steps: &mut Steps<L>,
 ) -> Status
-    ensures { Ends result (S.left source.old) (S.left source.new) (K.taken sink.old) (K.taken sink.new) (D.page desk.old)
-        (S.faults source.old) (S.faults source.new) (K.faults sink.old) (K.faults sink.new) }
+    ensures { Ends result
+        (record { left = S.left source.old; taken = K.taken sink.old; page = D.page desk.old; log = D.log desk.old; read_faults = S.faults source.old; write_faults = K.faults sink.old })
+        (record { left = S.left source.new; taken = K.taken sink.new; page = D.page desk.new; log = D.log desk.new; read_faults = S.faults source.new; write_faults = K.faults sink.new }) }
 {
     let Ok(mut piece) = vec![in alloc; 0u8; PIECE] else {
         return Status::Memory;
@@ -108,6 +110,19 @@ pub fn run<S: Source, K: Sink, D: Desk, L: Ledger>(
     // With ReadFault they are just the replies to the whole lines of the bytes that were read.
     ensures whole { result ≡ Status.ReadFault → (read rest : List ℕ) → S.left source.old ≡ Some (read ++ rest) → S.left source.new ≡ Some rest → IsSome (D.page desk.old)
         → TakesAll (K.taken sink.old) (K.taken sink.new) (replies (whole_lines read)) }
+
+    // The desk's page is then the page after the lines that were answered.
+    ensures page { result ≡ Status.Done → (script : List ℕ) → S.left source.old ≡ Some script → IsSome (D.page desk.old)
+        → D.page desk.new ≡ Some (page_after script) }
+    ensures page_at_fault { result ≡ Status.ReadFault → (read rest : List ℕ) → S.left source.old ≡ Some (read ++ rest) → S.left source.new ≡ Some rest → IsSome (D.page desk.old)
+        → D.page desk.new ≡ Some (page_after (whole_lines read)) }
+
+    // Each answer is the one that the desk gave to that line: its log, where it is told, goes on, and with Done the sink has
+    // taken the replies that the entries make.
+    ensures log_grows { Grows (D.log desk.old) (D.log desk.new) }
+    ensures scripted { result ≡ Status.Done → (script : List ℕ) (before entries : List Entry) → S.left source.old ≡ Some script
+        → D.log desk.old ≡ Some before → D.log desk.new ≡ Some (before ++ entries)
+        → IsSomeAnd (scripted_replies script entries) (TakesAll (K.taken sink.old) (K.taken sink.new)) }
 
     // The causes.
     ensures usage { (result ≡ Status.Usage) ↔ (words.now ≢ []) }

@@ -1,7 +1,7 @@
 ghost use Rattle.std.specs.Prelude.{◌≡◌, ◌≢◌, ◌↔◌, min, Contains, ℕ, List, ◌++◌, ◌<◌, ◌≤◌, Option, Some, None, option_map, IfOk, OnErr, length, take};
 ghost use Rattle.hit_script.specs.Ends.{Rose, TakesAll, count_up};
 
-use crate::reply::OutOfMemory;
+use crate::memory::OutOfMemory;
 use std::io;
 
 /// Why a write took nothing.

@@ -1,13 +1,15 @@
 // A piece of a script, from its bytes to the replies of its whole lines.
 ghost use Rattle.std.specs.Prelude.{◌≡◌, ◌++◌, ◌∷◌, ◌==◌, ◌≤◌, [], false, Some, Err, OnOk, OnErr, if◌then◌else◌};
 ghost use Rattle.box_tree.specs.Contents.{Contents};
-ghost use Rattle.hit_script.specs.Ends.{Rose, TakesAll, TakesFront};
+ghost use Rattle.hit_script.specs.Answered.{Answers, Appends, Hands};
+ghost use Rattle.hit_script.specs.Ends.{Rose, TakesFront};
 ghost use Rattle.hit_script.specs.Lines.{lines, has_newline, whole_lines, unfinished};
-ghost use Rattle.hit_script.specs.Script.{answer_to, replies_from, page_behind};
+ghost use Rattle.hit_script.specs.Log.{Grows};
+ghost use Rattle.hit_script.specs.Script.{replies_from};
 
 use crate::answers::answer;
 use crate::desks::Desk;
-use crate::reply::OutOfMemory;
+use crate::memory::OutOfMemory;
 use crate::sinks::{Sink, SinkFault};
 use crate::transfer::write_all;
 use fractions::{Ledger, Steps};
@@ -23,10 +25,8 @@ fn take_byte<D: Desk, L: Ledger>(
     out: &mut Vec<u8>,
 ) -> Result<(), OutOfMemory>
     ensures begun { OnOk result (begun.new.items ≡ (if byte == 10 then [] else begun.old.items ++ byte ∷ [])) }
-    ensures page { OnOk result ((page : Contents) → D.page desk.old ≡ Some page
-        → D.page desk.new ≡ Some (if byte == 10 then (answer_to page begun.old.items).page else page)) }
-    ensures reply { OnOk result ((page : Contents) → D.page desk.old ≡ Some page
-        → out.new.items ≡ out.old.items ++ (if byte == 10 then (answer_to page begun.old.items).reply else [])) }
+    ensures log { Grows (D.log desk.old) (D.log desk.new) }
+    ensures replies { OnOk result (Appends (Answers (if byte == 10 then begun.old.items ∷ [] else []) (D.page desk.old) (D.page desk.new) (D.log desk.old) (D.log desk.new)) out.old.items out.new.items) }
 {
     if byte == b'\n' {
         answer(alloc, begun, desk, steps, out)?;
@@ -49,10 +49,8 @@ pub fn absorb<D: Desk, L: Ledger>(
 ) -> Result<(), OutOfMemory>
     requires { has_newline begun.old.items ≡ false }
     ensures begun { OnOk result (begun.new.items ≡ unfinished (begun.old.items ++ piece.now)) }
-    ensures page { OnOk result ((page : Contents) → D.page desk.old ≡ Some page
-        → D.page desk.new ≡ Some (page_behind page (lines (whole_lines (begun.old.items ++ piece.now))))) }
-    ensures replies { OnOk result ((page : Contents) → D.page desk.old ≡ Some page
-        → out.new.items ≡ out.old.items ++ replies_from page (lines (whole_lines (begun.old.items ++ piece.now)))) }
+    ensures log { Grows (D.log desk.old) (D.log desk.new) }
+    ensures replies { OnOk result (Appends (Answers (lines (whole_lines (begun.old.items ++ piece.now))) (D.page desk.old) (D.page desk.new) (D.log desk.old) (D.log desk.new)) out.old.items out.new.items) }
 {
     for byte in piece {
         take_byte(alloc, *byte, desk, steps, begun, out)?;
@@ -72,10 +70,8 @@ pub fn reply_to<K: Sink, D: Desk, L: Ledger>(
 ) -> Result<(), SinkFault>
     requires { has_newline begun.old.items ≡ false }
     ensures begun { OnOk result (begun.new.items ≡ unfinished (begun.old.items ++ piece.now)) }
-    ensures page { OnOk result ((page : Contents) → D.page desk.old ≡ Some page
-        → D.page desk.new ≡ Some (page_behind page (lines (whole_lines (begun.old.items ++ piece.now))))) }
-    ensures replied { OnOk result ((page : Contents) → D.page desk.old ≡ Some page
-        → TakesAll (K.taken sink.old) (K.taken sink.new) (replies_from page (lines (whole_lines (begun.old.items ++ piece.now))))) }
+    ensures log { Grows (D.log desk.old) (D.log desk.new) }
+    ensures replied { OnOk result (Hands (Answers (lines (whole_lines (begun.old.items ++ piece.now))) (D.page desk.old) (D.page desk.new) (D.log desk.old) (D.log desk.new)) (K.taken sink.old) (K.taken sink.new)) }
     ensures part { OnErr result ((page : Contents) → D.page desk.old ≡ Some page
         → TakesFront (K.taken sink.old) (K.taken sink.new) (replies_from page (lines (whole_lines (begun.old.items ++ piece.now))))) }
     ensures failed { result ≡ Err SinkFault.Failed → Rose (K.faults sink.old) (K.faults sink.new) }
@@ -95,10 +91,8 @@ fn answer_last<D: Desk, L: Ledger>(
     out: &mut Vec<u8>,
 ) -> Result<(), OutOfMemory>
     requires { has_newline line.now ≡ false }
-    ensures page { OnOk result ((page : Contents) → D.page desk.old ≡ Some page
-        → D.page desk.new ≡ Some (page_behind page (lines line.now))) }
-    ensures replies { OnOk result ((page : Contents) → D.page desk.old ≡ Some page
-        → out.new.items ≡ out.old.items ++ replies_from page (lines line.now)) }
+    ensures log { Grows (D.log desk.old) (D.log desk.new) }
+    ensures replies { OnOk result (Appends (Answers (lines line.now) (D.page desk.old) (D.page desk.new) (D.log desk.old) (D.log desk.new)) out.old.items out.new.items) }
 {
     if line.is_empty() {
         return Ok(());
@@ -115,10 +109,8 @@ pub fn reply_to_last<K: Sink, D: Desk, L: Ledger>(
     steps: &mut Steps<L>,
 ) -> Result<(), SinkFault>
     requires { has_newline line.now ≡ false }
-    ensures page { OnOk result ((page : Contents) → D.page desk.old ≡ Some page
-        → D.page desk.new ≡ Some (page_behind page (lines line.now))) }
-    ensures replied { OnOk result ((page : Contents) → D.page desk.old ≡ Some page
-        → TakesAll (K.taken sink.old) (K.taken sink.new) (replies_from page (lines line.now))) }
+    ensures log { Grows (D.log desk.old) (D.log desk.new) }
+    ensures replied { OnOk result (Hands (Answers (lines line.now) (D.page desk.old) (D.page desk.new) (D.log desk.old) (D.log desk.new)) (K.taken sink.old) (K.taken sink.new)) }
     ensures part { OnErr result ((page : Contents) → D.page desk.old ≡ Some page
         → TakesFront (K.taken sink.old) (K.taken sink.new) (replies_from page (lines line.now))) }
     ensures failed { result ≡ Err SinkFault.Failed → Rose (K.faults sink.old) (K.faults sink.new) }

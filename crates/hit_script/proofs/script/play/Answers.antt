@@ -1,7 +1,9 @@
 use Rattle.std.proofs.Common.{rules, ◌<◌, ◌+◌, ◌^◌, [], ◌++◌, length, take, Ok, Err, refl, ap, sym, ◌∙◌, arith}
+use Rattle.hit_script.specs.Ending.{Moment}
 use Rattle.hit_script.specs.declared.outcome.Status.TheVariants as status
 use Rattle.hit_script.specs.declared.sinks.SinkFault.TheVariants as sink_fault
 use Rattle.hit_script.proofs.LineLaws.{no_newline, newline_not_unfinished}
+use Rattle.hit_script.proofs.Logs.{grows_both}
 use Rattle.hit_script.proofs.Pieces.{whole_buffer, front_length}
 use Rattle.hit_script.proofs.Progress.{stands_first, stands_more, rose_since}
 use Rattle.hit_script.proofs.Endings.{front_so_far, front_in_piece, front_in_last, short_so_far, short_with_piece, ends_by_sink, ends_by_source, ends_too_much, ends_done}
@@ -9,19 +11,18 @@ use Rattle.hit_script.proofs.script.play.Goals as goal
 
 pub returns-in_default : goal.returns-in_default
 returns-in_default g c =
-    let stands = stands_first (g.S.Source.left c.args.source.now) (g.K.Sink.taken c.args.sink.now) (g.D.Desk.page c.args.desk.now) in
-    ends_by_sink sink_fault.OutOfMemory status.Memory _ _ _ _ _ _ _ _ _ refl (λ e. absurd (cc)) (front_so_far stands) (short_so_far stands (omega arith))
+    let start : Moment = record { left = g.S.Source.left c.args.source.now; taken = g.K.Sink.taken c.args.sink.now; page = g.D.Desk.page c.args.desk.now; log = g.D.Desk.log c.args.desk.now; read_faults = g.S.Source.faults c.args.source.now; write_faults = g.K.Sink.faults c.args.sink.now } in
+    let stands = stands_first start in
+    ends_by_sink sink_fault.OutOfMemory status.Memory start start refl (λ e. absurd (cc)) (front_so_far stands) (short_so_far stands (omega arith)) stands.log_grows
 
 pub pieces-init : goal.pieces-init
 pieces-init g c =
     let items = c.new-begun.ensures.items in
     record {
-      stands = rw items (stands_first (g.S.Source.left c.args.source.now) (g.K.Sink.taken c.args.sink.now) (g.D.Desk.page c.args.desk.now));
+      stands = rw items (stands_first _);
       open_line = rw items no_newline;
       below = omega arith;
       room = c.in-Ok.ensures.len;
-      read_faults = omega arith;
-      write_faults = omega arith;
     }
 
 pub room_after-requires : goal.room_after-requires
@@ -37,7 +38,7 @@ pub returns-in_default-read_piece : goal.returns-in_default-read_piece
 returns-in_default-read_piece g c =
     let kept = c.pieces.invariant in
     let failed = c.in_default-read_piece.ensures in
-    ends_by_source _ _ _ _ _ kept.stands kept.below failed.unchanged (rose_since _ _ _ kept.read_faults failed.failed)
+    rw failed.unchanged (ends_by_source kept.stands kept.below (g.S.Source.faults c.read_piece.new.source) (rose_since _ _ _ kept.stands.read_faults failed.failed))
 
 pub overflow_add-read : goal.overflow_add-read
 overflow_add-read g c =
@@ -52,7 +53,7 @@ returns-then-read-eq-MOST g c =
     let reads = c.in-Ok-read_piece.ensures in
     let size = c.read_piece.auto.piece ∙ c.deref_mut.ensures.len ∙ kept.room in
     let long = front_length c.read_piece.new.piece c.in-Ok-read_piece.count c.room_after.result _ reads.within c.room_after.ensures.piece size in
-    ends_too_much _ (take c.in-Ok-read_piece.count c.read_piece.new.piece) _ _ _ _ kept.stands reads.read (rw long c.if-read-eq-MOST.true)
+    ends_too_much kept.stands (g.S.Source.left c.read_piece.new.source) (g.S.Source.faults c.read_piece.new.source) (take c.in-Ok-read_piece.count c.read_piece.new.piece) reads.read (rw long c.if-read-eq-MOST.true)
 
 pub slice_bounds-reply_to-end : goal.slice_bounds-reply_to-end
 slice_bounds-reply_to-end g c =
@@ -63,6 +64,7 @@ reply_to-requires g c = c.pieces.invariant.open_line
 
 pub returns-in-Err : goal.returns-in-Err
 returns-in-Err g c =
+    let finish : Moment = record { left = g.S.Source.left c.read_piece.new.source; taken = g.K.Sink.taken c.reply_to.new.sink; page = g.D.Desk.page c.reply_to.new.desk; log = g.D.Desk.log c.reply_to.new.desk; read_faults = g.S.Source.faults c.read_piece.new.source; write_faults = g.K.Sink.faults c.reply_to.new.sink } in
     let kept = c.pieces.invariant in
     let reads = c.in-Ok-read_piece.ensures in
     let count = c.in-Ok-read_piece.count in
@@ -72,10 +74,11 @@ returns-in-Err g c =
     let long = front_length c.read_piece.new.piece count c.room_after.result _ reads.within c.room_after.ensures.piece (filled ∙ kept.room) in
     let part = rw (c.in-Err.is, same) at c.reply_to.ensures.part in
     let below : c.pieces.read + length bytes < 2 ^ 32 = omega (arith, long, reads.within, c.room_after.ensures.most, c.if-read-eq-MOST.false) in
-    ends_by_sink c.in-Err.fault c.status_of.result _ _ _ _ _ _ _ _ _ c.status_of.ensures
-    (λ e. rose_since _ _ _ kept.write_faults (c.reply_to.ensures.failed (c.in-Err.is ∙ ap Err e)))
-    (front_in_piece _ _ bytes kept.stands reads.read part)
-    (short_with_piece _ bytes kept.stands reads.read below)
+    ends_by_sink c.in-Err.fault c.status_of.result _ finish c.status_of.ensures
+    (λ e. rose_since _ _ _ kept.stands.write_faults (c.reply_to.ensures.failed (c.in-Err.is ∙ ap Err e)))
+    (front_in_piece kept.stands finish bytes reads.read part)
+    (short_with_piece kept.stands finish bytes reads.read below)
+    (grows_both kept.stands.log_grows c.reply_to.ensures.log)
 
 pub pieces-smaller : goal.pieces-smaller
 pieces-smaller g c = omega (arith, c.in-Ok-read_piece.ensures.within, c.room_after.ensures.most, c.if-count-eq0.false, c.if-read-eq-MOST.false)
@@ -90,15 +93,12 @@ pieces-preserved g c =
     let same = whole_buffer c.deref.result.now c.read_piece.new.piece _ _ c.deref.ensures.value filled in
     let long = front_length c.read_piece.new.piece count c.room_after.result _ reads.within c.room_after.ensures.piece (filled ∙ kept.room) in
     let begun = rw same at c.in_default-reply_to.ensures.begun in
-    let page = rw same at c.in_default-reply_to.ensures.page in
     let replied = rw same at c.in_default-reply_to.ensures.replied in
     record {
-      stands = rw long at (stands_more _ _ _ bytes _ kept.stands reads.read begun page replied);
+      stands = rw long at (stands_more _ bytes _ kept.stands reads.read begun replied c.reply_to.ensures.log c.read_piece.ensures.never_falls c.reply_to.ensures.never_falls);
       open_line = rw begun (newline_not_unfinished (c.pieces.begun.items ++ bytes));
       below = omega (arith, reads.within, c.room_after.ensures.most, c.if-read-eq-MOST.false);
       room = kept.room;
-      read_faults = omega (arith, kept.read_faults, c.read_piece.ensures.never_falls);
-      write_faults = omega (arith, kept.write_faults, c.reply_to.ensures.never_falls);
     }
 
 pub reply_to_last-requires : goal.reply_to_last-requires
@@ -110,17 +110,19 @@ returns-in-Ok-reply_to_last g c =
     let none = c.if-count-eq0.true in
     let reads = rw none at c.in-Ok-read_piece.ensures.read in
     let ended = c.in-Ok-read_piece.ensures.end (ap Ok none) in
-    ends_done _ _ _ _ _ _ kept.stands kept.below reads ended (rw c.deref-2.ensures.value at c.in-Ok-reply_to_last.ensures.replied)
+    ends_done kept.stands kept.below _ reads ended (rw c.deref-2.ensures.value at c.in-Ok-reply_to_last.ensures.replied) c.reply_to_last.ensures.log
 
 pub returns : goal.returns
 returns g c =
+    let finish : Moment = record { left = g.S.Source.left c.read_piece.new.source; taken = g.K.Sink.taken c.reply_to_last.new.sink; page = g.D.Desk.page c.reply_to_last.new.desk; log = g.D.Desk.log c.reply_to_last.new.desk; read_faults = g.S.Source.faults c.read_piece.new.source; write_faults = g.K.Sink.faults c.reply_to_last.new.sink } in
     let kept = c.pieces.invariant in
     let none = c.if-count-eq0.true in
     let reads = rw none at c.in-Ok-read_piece.ensures.read in
     let ended = c.in-Ok-read_piece.ensures.end (ap Ok none) in
     let part = rw (c.in-Err-reply_to_last.is, c.deref-2.ensures.value) at c.reply_to_last.ensures.part in
     let below : c.pieces.read + 0 < 2 ^ 32 = omega (arith, kept.below) in
-    ends_by_sink c.in-Err-reply_to_last.fault c.status_of-in-Err-reply_to_last.result _ _ _ _ _ _ _ _ _ c.status_of-in-Err-reply_to_last.ensures
-    (λ e. rose_since _ _ _ kept.write_faults (c.reply_to_last.ensures.failed (c.in-Err-reply_to_last.is ∙ ap Err e)))
-    (front_in_last _ _ kept.stands reads ended part)
-    (short_with_piece _ [] kept.stands reads below)
+    ends_by_sink c.in-Err-reply_to_last.fault c.status_of-in-Err-reply_to_last.result _ finish c.status_of-in-Err-reply_to_last.ensures
+    (λ e. rose_since _ _ _ kept.stands.write_faults (c.reply_to_last.ensures.failed (c.in-Err-reply_to_last.is ∙ ap Err e)))
+    (front_in_last kept.stands finish reads ended part)
+    (short_with_piece kept.stands finish [] reads below)
+    (grows_both kept.stands.log_grows c.reply_to_last.ensures.log)

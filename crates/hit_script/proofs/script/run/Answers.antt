@@ -2,6 +2,7 @@ use Rattle.std.proofs.Common.{length, refl, ap, sym, ◌∙◌}
 use Rattle.std.proofs.lemmas.Bool.{eqb-true, eqb-false}
 use Rattle.std.proofs.lemmas.List.{nil_from_length}
 use Rattle.hit_script.proofs.Endings.{first_told, ends_complete, ends_full}
+use Rattle.hit_script.proofs.Logs.{grows_same}
 use Rattle.hit_script.proofs.script.run.Goals as goal
 
 -- With a word nothing is done.
@@ -20,6 +21,22 @@ returns-then-not-is_empty-clause-front g c none script told page =
 
 pub returns-then-not-is_empty-clause-whole : goal.returns-then-not-is_empty-clause-whole
 returns-then-not-is_empty-clause-whole g c e read rest told now page =
+    absurd (cc)
+
+pub returns-then-not-is_empty-clause-page : goal.returns-then-not-is_empty-clause-page
+returns-then-not-is_empty-clause-page g c e script told page =
+    absurd (cc)
+
+pub returns-then-not-is_empty-clause-page_at_fault : goal.returns-then-not-is_empty-clause-page_at_fault
+returns-then-not-is_empty-clause-page_at_fault g c e read rest told now page =
+    absurd (cc)
+
+pub returns-then-not-is_empty-clause-log_grows : goal.returns-then-not-is_empty-clause-log_grows
+returns-then-not-is_empty-clause-log_grows g c =
+    grows_same _
+
+pub returns-then-not-is_empty-clause-scripted : goal.returns-then-not-is_empty-clause-scripted
+returns-then-not-is_empty-clause-scripted g c e script before entries told told_log now_log =
     absurd (cc)
 
 pub returns-then-not-is_empty-clause-usage : goal.returns-then-not-is_empty-clause-usage
@@ -67,6 +84,22 @@ returns-clause-front g c none script told page =
 pub returns-clause-whole : goal.returns-clause-whole
 returns-clause-whole g c failed read rest told now page =
     c.play.ensures.whole failed read rest _ told now (first_told _ c.requires page)
+
+pub returns-clause-page : goal.returns-clause-page
+returns-clause-page g c done script told page =
+    c.play.ensures.page_at_end done script _ told (first_told _ c.requires page)
+
+pub returns-clause-page_at_fault : goal.returns-clause-page_at_fault
+returns-clause-page_at_fault g c failed read rest told now page =
+    c.play.ensures.page_at_fault failed read rest _ told now (first_told _ c.requires page)
+
+pub returns-clause-log_grows : goal.returns-clause-log_grows
+returns-clause-log_grows g c =
+    c.play.ensures.log_grows
+
+pub returns-clause-scripted : goal.returns-clause-scripted
+returns-clause-scripted g c =
+    c.play.ensures.scripted
 
 pub returns-clause-usage : goal.returns-clause-usage
 returns-clause-usage g c =

@@ -5,7 +5,7 @@ ghost use Rattle.serde_json.specs.Find.{as_array, as_object, as_str};
 ghost use Rattle.serde_json.specs.View.{view, items_view};
 ghost use Rattle.box_tree.specs.Contents.{IsBoxInRange, IsWithin, IsSide};
 ghost use Rattle.box_tree.specs.declared.piece.Piece.{Piece};
-ghost use Rattle.hit_script.specs.Command.{number_within as within, coordinate as coordinate_in, side as side_in, number_to as number_up_to, is_array_of as has_items, is_object_of as has_keys, box_at, box_of, each_box, boxes_of, id_of, kind_named, style_of, new_node, add_of, remove_of, move_of, hit_of, command_reading, IsAskable};
+ghost use Rattle.script_lines.specs.Command.{number_within as within, coordinate as coordinate_in, side as side_in, number_to as number_up_to, is_array_of as has_items, is_object_of as has_keys, box_at, box_of, each_box, boxes_of, id_of, kind_named, style_of, new_node, add_of, remove_of, move_of, point_of, hit_of, top_of, command_reading, IsAskable};
 
 use crate::command::Command;
 use box_tree::{Edit, Kind, Piece, PieceList};
@@ -225,17 +225,34 @@ fn move_from(value: &Value) -> Option<Command>
     Some(Command::Edit(Edit::Move { id, parent, at }))
 }
 
-#[tactic(auto, unfolding(crate::specs::Command::hit_of))]
-fn hit_from(value: &Value) -> Option<Command>
-    ensures value { result ≡ hit_of (view value.now) }
-    ensures in_range { IfSome result IsAskable }
+// The point that a query asks about.
+#[tactic(auto, unfolding(crate::specs::Command::point_of))]
+fn point_from(value: &Value) -> Option<(i64, i64)>
+    ensures value { result ≡ point_of (view value.now) }
+    ensures in_range { IfSome result (λ point. IsWithin 26 point.0 × IsWithin 26 point.1) }
 {
     if !is_object_of(value, 3) {
         return None;
     }
     let x = coordinate(value.get("x"))?;
     let y = coordinate(value.get("y"))?;
+    Some((x, y))
+}
+
+fn hit_from(value: &Value) -> Option<Command>
+    ensures value { result ≡ hit_of (view value.now) }
+    ensures in_range { IfSome result IsAskable }
+{
+    let (x, y) = point_from(value)?;
     Some(Command::Hit { x, y })
+}
+
+fn top_from(value: &Value) -> Option<Command>
+    ensures value { result ≡ top_of (view value.now) }
+    ensures in_range { IfSome result IsAskable }
+{
+    let (x, y) = point_from(value)?;
+    Some(Command::Top { x, y })
 }
 
 /// The command that a JSON value spells.
@@ -249,6 +266,7 @@ pub fn command_from(alloc: Global, value: &Value) -> Result<Option<Command>, All
         Some("remove") => Ok(remove_from(value)),
         Some("move") => Ok(move_from(value)),
         Some("hit") => Ok(hit_from(value)),
+        Some("top") => Ok(top_from(value)),
         _ => Ok(None),
     }
 }

@@ -4,10 +4,10 @@ use Rattle.std.specs.List.{flat_map}
 use Rattle.box_tree.specs.declared.edit.EditFault.{EditFault}
 use Rattle.box_tree.specs.declared.edit.EditFault.TheVariants as edit_fault
 use Rattle.box_tree.specs.Edited.{fault_number, fault_name}
-use Rattle.hit_script.specs.declared.command.LineFault.{LineFault}
-use Rattle.hit_script.specs.declared.command.LineFault.TheVariants as line_fault
-use Rattle.hit_script.specs.declared.reply.Reply.{Reply}
-use Rattle.hit_script.specs.declared.reply.Reply.TheVariants.{Node, Done, Hit, Line, Edit}
+use Rattle.script_lines.specs.declared.command.LineFault.{LineFault}
+use Rattle.script_lines.specs.declared.command.LineFault.TheVariants as line_fault
+use Rattle.script_lines.specs.declared.reply.Reply.{Reply}
+use Rattle.script_lines.specs.declared.reply.Reply.TheVariants.{Node, Done, Hit, Top, Line, Edit}
 
 -- a text and its newline
 abbrev pub line_of : List ℕ → List ℕ
@@ -40,6 +40,11 @@ listed id = 32 ∷ decimal id
 abbrev pub hit_line : List ℕ → List ℕ
 hit_line ids = line_of (codes "hit" ++ flat_map listed ids)
 
+-- the line of the topmost element, or of none
+abbrev pub top_line : Option ℕ → List ℕ
+top_line (Some id) = line_of (codes "top " ++ decimal id)
+top_line None = line_of (codes "top null")
+
 -- the line of an accepted add, by the id of the new node
 abbrev pub node_line : ℕ → List ℕ
 node_line id = line_of (codes "node " ++ decimal id)
@@ -59,6 +64,7 @@ abbrev pub reply_line : Reply → List ℕ
 reply_line (Node id) = node_line id
 reply_line Done = done_line
 reply_line (Hit ids) = hit_line ids.now
+reply_line (Top id) = top_line id
 reply_line (Line why) = line_fault_line why
 reply_line (Edit why) = edit_fault_line why
 

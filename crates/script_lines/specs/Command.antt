@@ -13,10 +13,10 @@ use Rattle.box_tree.specs.declared.piece.Piece.{Piece}
 use Rattle.box_tree.specs.declared.edit.Edit.TheVariants.{Add, Remove, Move}
 use Rattle.box_tree.specs.Edited.{IsInRange}
 use Rattle.box_tree.specs.Contents.{IsWithin}
-use Rattle.hit_script.specs.declared.command.Command.{Command}
-use Rattle.hit_script.specs.declared.command.Command.TheVariants.{Edit, Hit}
-use Rattle.hit_script.specs.declared.command.LineFault.{LineFault}
-use Rattle.hit_script.specs.declared.command.LineFault.TheVariants as fault
+use Rattle.script_lines.specs.declared.command.Command.{Command}
+use Rattle.script_lines.specs.declared.command.Command.TheVariants.{Edit, Hit, Top}
+use Rattle.script_lines.specs.declared.command.LineFault.{LineFault}
+use Rattle.script_lines.specs.declared.command.LineFault.TheVariants as fault
 
 -- One reading after another: there is none where one of them finds nothing.
 infixl 10 ◌>>=◌
@@ -131,15 +131,22 @@ move_fields d = do
 unfoldable pub move_of : Data → Option Command
 move_of d = if is_object_of 4 d then move_fields d else None
 
-abbrev pub hit_fields : Data → Option Command
-hit_fields d = do
+-- the point that a query asks about
+abbrev pub point_fields : Data → Option (ℤ × ℤ)
+point_fields d = do
   x ← get (codes "x") d >>= coordinate
   y ← get (codes "y") d >>= coordinate
-  Some (Hit x y)
+  Some (x, y)
 
--- the row of `hit`, its keys in any order and no other key
-unfoldable pub hit_of : Data → Option Command
-hit_of d = if is_object_of 3 d then hit_fields d else None
+-- the row of a query at a point, its keys in any order and no other key
+unfoldable pub point_of : Data → Option (ℤ × ℤ)
+point_of d = if is_object_of 3 d then point_fields d else None
+
+abbrev pub hit_of : Data → Option Command
+hit_of d = option_map (λ point. Hit point.0 point.1) (point_of d)
+
+abbrev pub top_of : Data → Option Command
+top_of d = option_map (λ point. Top point.0 point.1) (point_of d)
 
 -- the command by the row of an op
 abbrev pub row_named : List ℕ → Data → Option Command
@@ -148,6 +155,7 @@ row_named op d =
     else if bytes_eq op (codes "remove") then remove_of d
     else if bytes_eq op (codes "move") then move_of d
     else if bytes_eq op (codes "hit") then hit_of d
+    else if bytes_eq op (codes "top") then top_of d
     else None
 
 -- the command that an object spells, by its key `op`
@@ -177,3 +185,4 @@ meaning line = if is_long line then Err fault.Long else command_or_fault (json_r
 abbrev pub IsAskable : Command → Type 0
 IsAskable (Edit edit) = IsInRange edit
 IsAskable (Hit x y) = IsWithin 26 x × IsWithin 26 y
+IsAskable (Top x y) = IsWithin 26 x × IsWithin 26 y

@@ -1,8 +1,8 @@
 use Rattle.std.proofs.Common.{◌≡◌, ◌++◌, drop}
 use Rattle.std.specs.List.{flat_map}
 use Rattle.std.specs.Prelude.{codes}
-use Rattle.hit_script.specs.Reply.{listed, Keeps}
-use Rattle.hit_script.proofs.reply.append_hit.Given as goal
+use Rattle.script_lines.specs.Reply.{listed, Keeps}
+use Rattle.script_lines.proofs.reply.append_hit.Given as goal
 
 -- what is written, followed by the members that are left, is the line before its newline
 abbrev pub invariant-loop-id : goal.invariant-loop-id

@@ -1,11 +1,12 @@
 ghost use Rattle.std.specs.Prelude.{◌≡◌, ◌++◌, ◌∷◌, [], OnOk, OnErr, decimal};
 ghost use Rattle.std.specs.List.{flat_map};
-ghost use Rattle.hit_script.specs.Reply.{line_of, line_fault_number, line_fault_name, fault_line, listed, hit_line, reply_line, HasLine, Keeps};
+ghost use Rattle.script_lines.specs.Reply.{line_of, line_fault_number, line_fault_name, fault_line, listed, hit_line, top_line, reply_line, HasLine, Keeps};
 
 use crate::command::LineFault;
 use box_tree::EditFault;
 use itoa::Buffer;
 use std::alloc::{AllocError, AllocFailed};
+use thiserror::Error;
 
 /// What a line is answered with.
 #[derive(Clone, Copy, Debug)]
@@ -16,22 +17,19 @@ pub enum Reply<'a> {
     Done,
     /// The members under a point, topmost first.
     Hit(&'a [u32]),
+    /// The topmost element under a point, or none.
+    Top(Option<u32>),
     Line(LineFault),
     Edit(EditFault),
 }
 
 /// Memory was wanting.
-#[derive(Clone, Copy, Debug, PartialEq, Eq)]
+#[derive(Clone, Copy, Debug, PartialEq, Eq, Error)]
+#[error("out of memory")]
 pub struct OutOfMemory;
 
 impl From<AllocError> for OutOfMemory {
     fn from(_error: AllocError) -> OutOfMemory {
-        OutOfMemory
-    }
-}
-
-impl From<point_query::OutOfMemory> for OutOfMemory {
-    fn from(_error: point_query::OutOfMemory) -> OutOfMemory {
         OutOfMemory
     }
 }
@@ -94,6 +92,7 @@ fn append(reply: &Reply<'_>, out: &mut Vec<u8>) -> Result<(), AllocError>
         }
         Reply::Done => out.extend_from_slice(b"ok\n"),
         Reply::Hit(ids) => append_hit(ids, out),
+        Reply::Top(id) => append_top(*id, out),
         Reply::Line(why) => append_fault(why.number(), why.name(), out),
         Reply::Edit(why) => append_fault(why.number(), why.name(), out),
     }
@@ -123,6 +122,18 @@ fn append_hit(ids: &[u32], out: &mut Vec<u8>) -> Result<(), AllocError>
     for id in ids {
         append_listed(*id, out)?;
     }
+    out.extend_from_slice(b"\n")
+}
+
+fn append_top(id: Option<u32>, out: &mut Vec<u8>) -> Result<(), AllocError>
+    ensures ok { OnOk result (out.new.items ≡ out.old.items ++ top_line id) }
+    ensures kept { Keeps out.old.items out.new.items }
+{
+    let Some(id) = id else {
+        return out.extend_from_slice(b"top null\n");
+    };
+    out.extend_from_slice(b"top ")?;
+    append_number(id, out)?;
     out.extend_from_slice(b"\n")
 }
 

@@ -1,8 +1,8 @@
 ghost use Rattle.std.specs.Prelude.{◌≡◌, ◌≢◌, IsTrue, IfOk, IfErr, Some, None, Ok, Err};
 ghost use Rattle.serde_json.specs.View.{view};
 ghost use Rattle.serde_json.specs.Errors.{IsMemory};
-ghost use Rattle.hit_script.specs.Lines.{is_blank as blank};
-ghost use Rattle.hit_script.specs.Command.{is_long, json_reading, meaning, IsAskable};
+ghost use Rattle.script_lines.specs.Blank.{is_blank as blank};
+ghost use Rattle.script_lines.specs.Command.{is_long, json_reading, meaning, IsAskable};
 
 use crate::reading::command_from;
 use box_tree::Edit;
@@ -16,6 +16,8 @@ pub enum Command {
     Edit(Edit),
     /// Which elements lie under a point, in units of 1/64 px within 2^26.
     Hit { x: i64, y: i64 },
+    /// Which element is topmost under a point, in the same units.
+    Top { x: i64, y: i64 },
 }
 
 /// Why a line is no command, in the order of the tests.
@@ -32,7 +34,7 @@ pub enum LineFault {
 }
 
 /// The most bytes that a line may have without its newline.
-pub(crate) const LONGEST_LINE: usize = 1 << 20;
+pub const LONGEST_LINE: usize = 1 << 20;
 
 /// Whether a line has only spaces, tabs and carriage returns. Such a line has no reply.
 pub fn is_blank(line: &[u8]) -> bool

@@ -1,0 +1,67 @@
+-- Logs that go on, and what their entries make of lines.
+use Rattle.std.proofs.Common.{◌≡◌, ℕ, ℤ, true, ◌&&◌, List, [], ◌∷◌, ◌++◌, Option, Some, None, refl, sym, ap, ◌∙◌, append_assoc}
+use Rattle.std.specs.Prelude.{option_and_then}
+use Rattle.std.proofs.lemmas.Option.{same_Some}
+use Rattle.std.proofs.lemmas.List.{append-nil}
+use Rattle.std.specs.Ordering.{int_eq}
+use Rattle.hit_script.specs.Answered.{IsScripted}
+use Rattle.hit_script.specs.Log.{Entry, IsFollowedBy, Logs, Grows, Scripted, scripted_line, scripted_lines, at_point, text_before}
+
+-- A log goes on.
+
+pub grows_same : (log : Option (List Entry)) → Grows log log
+grows_same log after told = ([], (after, told, sym (append-nil after)))
+
+pub grows_as : {old new : Option (List Entry)} → new ≡ old → Grows old new
+grows_as {old} {new} same = rw same (grows_same old)
+
+pub follows_both : {first : Option (List Entry)} {mid : List Entry} {xs ys : List Entry} {after : List Entry} → IsFollowedBy first xs mid → IsFollowedBy (Some mid) ys after → IsFollowedBy first (xs ++ ys) after
+follows_both {first} {mid} {xs} {ys} {after} begins goes_on =
+    let same : mid ≡ goes_on.0 = same_Some _ _ goes_on.1 in
+    (begins.0, begins.1, goes_on.2 ∙ ap (λ (b : List Entry). b ++ ys) (sym same ∙ begins.2) ∙ append_assoc begins.0 xs ys)
+
+pub grows_both : {first second third : Option (List Entry)} → Grows first second → Grows second third → Grows first third
+grows_both {first} {second} {third} begins goes_on after told =
+    let later = goes_on after told in
+    let sooner = begins later.1.0 later.1.1 in
+    (sooner.0 ++ later.0, follows_both sooner.1 (later.1.0, refl, later.1.2))
+
+pub grows_by : {old new : Option (List Entry)} {entry : Entry} → Logs old new entry → Grows old new
+grows_by {old} {new} {entry} logs after told = (entry ∷ [], logs after told)
+
+pub grows_scripted : {make : List Entry → Option Scripted} {old new : Option (List Entry)} {text : List ℕ} → ((after : List Entry) → new ≡ Some after → IsScripted make old after text) → Grows old new
+grows_scripted {make} {old} {new} {text} scripted after told = ((scripted after told).entries, (scripted after told).follows)
+
+-- What entries make of lines, some lines after others.
+
+scripted_then : (line : List ℕ) (others ys : List (List ℕ)) (first : Option Scripted)
+    → ((log : List Entry) → scripted_lines (others ++ ys) log ≡ option_and_then (λ made. text_before made.text (scripted_lines ys made.rest)) (scripted_lines others log))
+    → option_and_then (λ made. text_before made.text (scripted_lines (others ++ ys) made.rest)) first ≡ option_and_then (λ made. text_before made.text (scripted_lines ys made.rest)) (option_and_then (λ made. text_before made.text (scripted_lines others made.rest)) first)
+scripted_then line others ys None split = refl
+scripted_then line others ys (Some first) split = rw (split first.rest) (by_middle (scripted_lines others first.rest))
+  where
+    by_rest : (text : List ℕ) (more : Option Scripted) → text_before first.text (text_before text more) ≡ text_before (first.text ++ text) more
+    by_rest text None = refl
+    by_rest text (Some more) = rw (append_assoc first.text text more.text) refl
+    by_middle : (middle : Option Scripted) → text_before first.text (option_and_then (λ made. text_before made.text (scripted_lines ys made.rest)) middle) ≡ option_and_then (λ made. text_before made.text (scripted_lines ys made.rest)) (text_before first.text middle)
+    by_middle None = refl
+    by_middle (Some middle) = by_rest middle.text (scripted_lines ys middle.rest)
+
+nothing_before : (more : Option Scripted) → more ≡ text_before [] more
+nothing_before None = refl
+nothing_before (Some more) = refl
+
+pub scripted_lines-append : (xs ys : List (List ℕ)) (log : List Entry) → scripted_lines (xs ++ ys) log ≡ option_and_then (λ made. text_before made.text (scripted_lines ys made.rest)) (scripted_lines xs log)
+scripted_lines-append [] ys log = nothing_before (scripted_lines ys log)
+scripted_lines-append (line ∷ others) ys log = scripted_then line others ys (scripted_line line log) (scripted_lines-append others ys)
+
+pub scripted_nothing : (old : Option (List Entry)) (after : List Entry) → old ≡ Some after → IsScripted (scripted_lines []) old after []
+scripted_nothing old after told = record { entries = []; follows = (after, told, sym (append-nil after)); makes = λ rest. refl }
+
+pub scripted_both : (xs ys : List (List ℕ)) {first : Option (List Entry)} {mid after : List Entry} {text more : List ℕ} → IsScripted (scripted_lines xs) first mid text → IsScripted (scripted_lines ys) (Some mid) after more → IsScripted (scripted_lines (xs ++ ys)) first after (text ++ more)
+scripted_both xs ys {first} {mid} {after} {text} {more} begins goes_on = record {
+  entries = begins.entries ++ goes_on.entries;
+  follows = follows_both begins.follows goes_on.follows;
+  makes = λ rest.
+      rw (append_assoc begins.entries goes_on.entries rest, scripted_lines-append xs ys (begins.entries ++ (goes_on.entries ++ rest)), begins.makes (goes_on.entries ++ rest)) (ap (text_before text) (goes_on.makes rest));
+}

@@ -1,0 +1,17 @@
+-- What a canned desk tells.
+use Rattle.std.specs.Prelude.{ℕ, List, [], ◌∷◌, Option, Some, None, Ok, map, take, nat_le, if◌then◌else◌}
+use Rattle.box_tree.specs.declared.edit.Done.TheVariants.{Done}
+use Rattle.hit_script.specs.Log.{Entry, EditEntry, HitEntry, TopEntry}
+use Rattle.hit_script.specs.declared.canned.Asked.{Asked}
+use Rattle.hit_script.specs.declared.canned.Asked.TheVariants as asked
+use Rattle.hit_script.specs.declared.canned.Canned.{Canned}
+
+-- what was asked, with the answer that is always the same
+abbrev pub canned_entry : ℕ → Asked → Entry
+canned_entry member asked.Edit = EditEntry (Ok Done)
+canned_entry member (asked.Hit x y) = HitEntry x y (member ∷ [])
+canned_entry member (asked.Top x y) = TopEntry x y (Some member)
+
+-- its log, which is told where there were at most 64 calls
+abbrev pub canned_log : Canned → Option (List Entry)
+canned_log desk = if nat_le desk.count 64 then Some (map (canned_entry desk.member) (take desk.count desk.asked)) else None

@@ -1,0 +1,86 @@
+// A desk with the same answers to all, for tests of what stands above a desk.
+ghost use Rattle.std.specs.Prelude.{◌≡◌, ◌≤◌, ◌+◌, nat_le, min, map, take, if◌then◌else◌, Some, None};
+ghost use Rattle.hit_script.specs.Log.{Logs};
+ghost use Rattle.hit_script.specs.Canned.{canned_entry, canned_log};
+
+use crate::desks::Desk;
+use crate::memory::OutOfMemory;
+use box_tree::{Done, Edit, EditFault};
+use fractions::{Ledger, Steps};
+use std::alloc::Global;
+
+/// The most calls that a canned desk keeps.
+const KEPT: u32 = 64;
+
+/// What a desk was asked.
+#[derive(Clone, Copy, Debug, PartialEq, Eq)]
+pub enum Asked {
+    /// For an edit.
+    Edit,
+    /// For the elements under a point, in units of 1/64 px.
+    Hit { x: i64, y: i64 },
+    /// For the topmost element under a point, in units of 1/64 px.
+    Top { x: i64, y: i64 },
+}
+
+/// A desk without a page. It accepts every edit, and finds one member under every point.
+///
+/// It keeps what it was asked in its first 64 calls, and tells its log as long as there were no more.
+#[derive(Debug, Drop)]
+pub struct Canned {
+    /// The member that it finds.
+    pub member: u32,
+    /// How many calls there were; 65 stands for more than 64.
+    pub count: u32,
+    /// What was asked in the first 64 of them.
+    pub asked: [Asked; 64],
+}
+
+impl Canned {
+    // Keeps what was asked.
+    fn keep(&mut self, asked: Asked)
+        ensures member { self.new.member ≡ self.old.member }
+        ensures logged { Logs (canned_log self.old) (canned_log self.new) (canned_entry self.old.member asked) }
+    {
+        if self.count < KEPT {
+            self.asked[self.count as usize] = asked;
+        }
+        if self.count <= KEPT {
+            self.count += 1;
+        }
+    }
+}
+
+impl Desk for Canned {
+    ghost page = { λ _. None };
+
+    ghost log = { canned_log };
+
+    fn edit<L: Ledger>(&mut self, _edit: &Edit, _steps: &mut Steps<L>) -> Result<Done, EditFault> {
+        self.keep(Asked::Edit);
+        Ok(Done::Done)
+    }
+
+    fn hit<L: Ledger>(
+        &mut self,
+        alloc: Global,
+        x: i64,
+        y: i64,
+        _steps: &mut Steps<L>,
+    ) -> Result<Vec<u32>, OutOfMemory> {
+        let ids = Vec::from_slice(alloc, &[self.member])?;
+        self.keep(Asked::Hit { x, y });
+        Ok(ids)
+    }
+
+    fn top<L: Ledger>(
+        &mut self,
+        _alloc: Global,
+        x: i64,
+        y: i64,
+        _steps: &mut Steps<L>,
+    ) -> Result<Option<u32>, OutOfMemory> {
+        self.keep(Asked::Top { x, y });
+        Ok(Some(self.member))
+    }
+}

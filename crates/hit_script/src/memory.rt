@@ -1,0 +1,31 @@
+use std::alloc::{AllocError, AllocFailed};
+use thiserror::Error;
+
+/// Memory was wanting.
+#[derive(Clone, Copy, Debug, PartialEq, Eq, Error)]
+#[error("out of memory")]
+pub struct OutOfMemory;
+
+impl From<AllocError> for OutOfMemory {
+    fn from(_error: AllocError) -> OutOfMemory {
+        OutOfMemory
+    }
+}
+
+impl From<point_query::OutOfMemory> for OutOfMemory {
+    fn from(_error: point_query::OutOfMemory) -> OutOfMemory {
+        OutOfMemory
+    }
+}
+
+impl From<script_lines::OutOfMemory> for OutOfMemory {
+    fn from(_error: script_lines::OutOfMemory) -> OutOfMemory {
+        OutOfMemory
+    }
+}
+
+impl<T: Drop> From<AllocFailed<T>> for OutOfMemory {
+    fn from(_error: AllocFailed<T>) -> OutOfMemory {
+        OutOfMemory
+    }
+}

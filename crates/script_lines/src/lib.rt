@@ -1,0 +1,16 @@
+//! The lines of a script: what a line asks for, and how a reply is written.
+//!
+//! It promises that `command_of` answers what a line means by `specs/Command.antt`, or its first fault, and that `print`
+//! writes the reply line of `specs/Reply.antt` and nothing else. It stands on `serde_json` for the reading of a line, on
+//! `itoa` for numbers, and on `box_tree` for edits and their faults.
+#![tactic(auto)]
+
+mod command;
+mod reading;
+mod reply;
+
+pub use command::{Command, LONGEST_LINE, LineFault, command_of, is_blank};
+pub use reply::{OutOfMemory, Reply, print};
+
+#[cfg(test)]
+mod tests;
