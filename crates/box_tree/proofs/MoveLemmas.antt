@@ -95,6 +95,10 @@ if_map : {X Y : Type 0} (g : X → Y) (b : Bool) (x : X) (o o' : Option X) (y : 
 if_map g true x o o' y u u' same first second = ap Some same
 if_map g false x o o' y u u' same first second = rw (first, second) (sym (map-or g o o'))
 
+-- a node whose parent and depth are equal
+with_both : (n : Node) (p p' d d' : ℕ) → p ≡ p' → d ≡ d' → record n { parent = p; depth = d } ≡ record n { parent = p'; depth = d' }
+with_both n p p' d d' parents depths = rw (parents, depths) refl
+
 -- nodes that stand below a node are at another depth where it has other ancestors, and else the same
 pub node_in-elsewhere : (f : Forest) (first : List Label) (n : Label) (above above' : List Label) (id : ℕ) → node_in (first ++ n ∷ above') f id ≡ option_map (at_depth (1 + length above) (1 + length above')) (node_in (first ++ n ∷ above) f id)
 node_in-elsewhere End first n above above' id = refl
@@ -109,15 +113,11 @@ node_in-elsewhere (Grow m below others) first n above above' id =
     same : node_at (record { label = m; above = first ++ n ∷ above'; below = below }) ≡ at_depth (1 + length above) (1 + length above') (node_at (record { label = m; above = first ++ n ∷ above; below = below }))
     same =
         let deep : 1 + length (first ++ n ∷ above') ≡ 1 + length (first ++ n ∷ above) - (1 + length above) + (1 + length above') = omega (arith, length-append first (n ∷ above'), length-append first (n ∷ above)) in
-        ap (λ d. let m' : Node = record { id = m.id; kind = m.kind; parent = parent_id (first ++ n ∷ above'); children = roots_of below; depth = d; boxes = m.boxes } in m') deep
-        ∙ ap (λ k. let m' : Node = record { id = m.id; kind = m.kind; parent = k; children = roots_of below; depth = 1 + length (first ++ n ∷ above) - (1 + length above) + (1 + length above'); boxes = m.boxes } in m') (parent_same first)
+        with_both (node_at (record { label = m; above = first ++ n ∷ above; below = below })) _ _ _ _ (parent_same first) deep
 
 -- a node below the head of a tree
 node_in-single : (n : Label) (below : Forest) (above : List Label) (id : ℕ) → n.id ≢ id → node_in above (single n below) id ≡ node_in (n ∷ above) below id
 node_in-single n below above id other = rw (node_in-cons n below End above id) (grind (arith, nat_tests, or-none (node_in (n ∷ above) below id)))
-
-with_both : (n : Node) (p p' d d' : ℕ) → p ≡ p' → d ≡ d' → record n { parent = p; depth = d } ≡ record n { parent = p'; depth = d' }
-with_both n p p' d d' parents depths = rw (parents, depths) refl
 
 -- ids are all kept where none is the one that goes
 ids_without-none : (ids : List ℕ) (id : ℕ) → is_among ids id ≡ false → ids_without id ids ≡ ids
@@ -209,7 +209,7 @@ module _ (page : Contents) (valid : IsValid page) (id parent at : ℕ) (q : Plac
     one_tree = rw (roots-put_below rest parent at q.label q.below, roots-taken_out page.tree id) (omega (arith, length-ids_without (roots_of page.tree) id, valid.one_tree));
     distinct = λ k. rw (occurrences-put_below rest parent at q.label q.below k once) (omega (arith, parted k, valid.distinct k));
     given = each-put_below (IsGiven page.next) rest [] parent at q.label q.below once (each-taken_out (IsGiven page.next) page.tree [] id valid.given) (elsewhere (IsGiven page.next) (λ a b above above' n given. record { positive = given.positive; below_next = given.below_next }) valid.given);
-    suited = each-put_below IsSuited rest [] parent at q.label q.below once (each-taken_out IsSuited page.tree [] id valid.suited) (elsewhere IsSuited (λ a b above above' n suited. record { boxes = suited.boxes; in_range = suited.in_range }) valid.suited);
+    suited = each-put_below IsSuited rest [] parent at q.label q.below once (each-taken_out IsSuited page.tree [] id valid.suited) (elsewhere IsSuited (λ a b above above' n suited. record { boxes = suited.boxes; in_range = suited.in_range; anchor = suited.anchor; scroll = suited.scroll }) valid.suited);
     depth = omega (arith, height-put_below rest [] parent at q.label q.below 256 once (omega (arith, height-taken_out page.tree id, valid.depth)) (omega (arith, may.depth, ap (λ (a : List Label). length a) ancestors_are, ap height_of tree_is)));
     nodes = rw (node_count-put_below rest parent at q.label q.below once) (omega (arith, valid.nodes, node_count-parted page.tree [] id (valid.distinct id), ap node_count tree_is));
     next = valid.next;

@@ -9,7 +9,7 @@ use Rattle.box_tree.specs.declared.edit.Done.TheVariants.{Node as NodeAdded, Don
 use Rattle.box_tree.specs.declared.edit.EditFault.{EditFault}
 use Rattle.box_tree.specs.declared.edit.EditFault.TheVariants as fault
 use Rattle.box_tree.specs.Forest.{Label, Forest, End, Grow, roots_of, node_count, height_of, occurrences}
-use Rattle.box_tree.specs.Contents.{Contents, placed_of, tree_of, has_id, depth_below, boxes_suit, IsBoxInRange}
+use Rattle.box_tree.specs.Contents.{Contents, placed_of, tree_of, has_id, depth_below, new_label, boxes_suit, IsBoxInRange}
 
 -- the numbers of an edit are within their limits
 abbrev pub IsInRange : Edit → Type 0
@@ -47,7 +47,7 @@ moved page id parent at = option_map_or (λ p. put_below parent at p.label p.bel
 -- the page that an edit without a fault leaves
 abbrev pub edited : Contents → Edit → Contents
 edited page (Add parent at kind boxes) = record page {
-  tree = planted parent at (record { id = page.next; kind = kind; boxes = boxes }) End page.tree;
+  tree = planted parent at (new_label page.next kind boxes) End page.tree;
   next = page.next + 1;
 }
 edited page (Remove id) = record page { tree = taken_out id page.tree }

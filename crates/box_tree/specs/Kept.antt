@@ -13,7 +13,7 @@ node_with (n ∷ nodes) id = if n.id == id then Some n else node_with nodes id
 
 -- what a node is apart from its place
 abbrev pub label_of : Node → Label
-label_of n = record { id = n.id; kind = n.kind; boxes = n.boxes }
+label_of n = record { id = n.id; kind = n.kind; anchor = n.anchor; boxes = n.boxes; scroll = n.scroll; max = n.max }
 
 -- a node, if it is there, as a tree before the others, where `below` makes the trees of its children
 abbrev pub tree_before : (List ℕ → Forest) → Option Node → Forest → Forest

@@ -12,13 +12,13 @@ use Rattle.box_tree.specs.declared.plan.Plan.{Plan}
 use Rattle.box_tree.specs.declared.plan.Relocation.{Relocation}
 use Rattle.box_tree.specs.declared.plan.Plan.TheVariants.{AddNode, RemoveNodes, MoveNodes}
 use Rattle.box_tree.specs.Forest.{End, node_count, occurrences}
-use Rattle.box_tree.specs.Contents.{Contents, depth_below, node_at, node_of, tree_of}
+use Rattle.box_tree.specs.Contents.{Contents, depth_below, new_label, node_at, node_of, tree_of}
 use Rattle.box_tree.specs.Edited.{IsInRange, first_fault, ancestors_below}
 use Rattle.box_tree.specs.PageState.{PageState}
 
 -- the node that an add makes
 abbrev pub node_added : Contents → ℕ → Kind → List Piece → Node
-node_added page parent kind boxes = node_at (record { label = record { id = page.next; kind = kind; boxes = boxes }; above = ancestors_below page parent; below = End })
+node_added page parent kind boxes = node_at (record { label = new_label page.next kind boxes; above = ancestors_below page parent; below = End })
 
 -- the children of `parent` with the new node as number `at` of them
 abbrev pub children_with : Contents → ℕ → ℕ → List ℕ

@@ -6,10 +6,10 @@ ghost use Rattle.box_tree.specs.Forest.{roots_of, node_count};
 ghost use Rattle.box_tree.specs.Kept.{node_with, IsRisingFrom};
 
 use crate::edit::{Done, Edit, EditFault};
-use crate::node::Node;
+use crate::node::{Node, ORIGIN};
 use crate::plan::{Plan, Prepared, Undo};
 use crate::viewport::Viewport;
-use fractions::{Ledger, Spot, Steps};
+use fractions::{Ledger, Steps};
 use std::alloc::Global;
 use std::marker::Model;
 use std::snapshot::Snapshot;
@@ -53,15 +53,14 @@ impl Page {
         requires height { (pos 1 ≤ℤ h) × (h ≤ℤ pos (2 ^ 20)) }
         ensures { result.contents ≡ empty_page w h }
     {
-        let origin = Spot { x: 0, y: 0 };
         Page {
             nodes: Vec::new(alloc),
             root: None,
             viewport: Viewport {
                 w,
                 h,
-                scroll: origin,
-                max: origin,
+                scroll: ORIGIN,
+                max: ORIGIN,
             },
             next: 1,
         }

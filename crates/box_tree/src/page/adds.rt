@@ -13,7 +13,7 @@ ghost use Rattle.box_tree.specs.declared.plan.Plan.TheVariants.{AddNode};
 use super::{Page, place_of};
 use crate::edit::{Done, Edit, EditFault};
 use crate::kind::Kind;
-use crate::node::{Boxes, IdList, Node};
+use crate::node::{Boxes, IdList, Node, ORIGIN};
 use crate::piece::PieceList;
 use crate::plan::Plan;
 use smallvec::SmallVec;
@@ -111,7 +111,10 @@ impl Page {
             parent,
             children: IdList(Vec::new(alloc)),
             depth,
+            anchor: ORIGIN,
             boxes: Boxes::from_pieces(alloc, &boxes.0)?,
+            scroll: ORIGIN,
+            max: ORIGIN,
         };
         Ok(Plan::AddNode { node, siblings })
     }
