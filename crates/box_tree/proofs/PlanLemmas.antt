@@ -11,7 +11,7 @@ use Rattle.box_tree.specs.declared.piece.Piece.{Piece}
 use Rattle.box_tree.specs.declared.node.Node.{Node}
 use Rattle.box_tree.specs.declared.viewport.Viewport.{Viewport}
 use Rattle.box_tree.specs.declared.edit.Edit.{Edit}
-use Rattle.box_tree.specs.declared.edit.Edit.TheVariants.{Add, Remove, Move}
+use Rattle.box_tree.specs.declared.edit.Edit.TheVariants.{Add}
 use Rattle.box_tree.specs.declared.plan.Plan.TheVariants.{AddNode}
 use Rattle.box_tree.specs.Forest.{Label, Forest, End, Grow, roots_of, Placed, placed_in}
 use Rattle.box_tree.specs.Contents.{Contents, node_at, node_of, placed_of, origin, new_label, has_id, parent_id, boxes_suit, IsValid}
@@ -68,8 +68,7 @@ planned-root state nodes first (Add parent at kind boxes) node siblings kept pla
     let tree_is = planted-root parent at (new_label page.next kind boxes) page.tree none_named in
     rw planned.plan_is.node_is (means_edited _ _ page (Add parent at kind boxes)
     (rw tree_is (kept-root page kept.valid parent at kind boxes planned.in_range may none_named first nodes kept)))
-planned-root state nodes first (Remove id) node siblings kept planned is_root = absurd planned.plan_is
-planned-root state nodes first (Move _ _ _) node siblings kept planned is_root = absurd planned.plan_is
+planned-root state nodes first edit node siblings kept planned is_root = absurd planned.plan_is
 
 -- a planned add of a child
 pub planned-child : (state : PageState) (nodes : List Node) (first : Option ℕ) (edit : Edit) (node : Node) (siblings : List ℕ) (i : ℕ) (n : Node) → IsKept nodes first state.contents → IsPlanned (AddNode node siblings) edit state → node.parent ≢ 0 → slice_get nodes i ≡ Some n → n.id ≡ node.parent → MeansEdited (set nodes i (record n { children = siblings }) ++ node ∷ []) first state.contents.viewport (state.contents.next + 1) state.contents edit
@@ -84,8 +83,7 @@ planned-child state nodes first (Add parent at kind boxes) node siblings i n kep
     let tree_is = planted-below parent at (new_label page.next kind boxes) page.tree named in
     rw (siblings_are, planned.plan_is.node_is) (means_edited _ _ page (Add parent at kind boxes)
     (rw tree_is (kept-below page kept.valid parent at kind boxes planned.in_range may there first nodes i n kept is (same ∙ parent_is))))
-planned-child state nodes first (Remove id) node siblings i n kept planned is_child is same = absurd planned.plan_is
-planned-child state nodes first (Move _ _ _) node siblings i n kept planned is_child is same = absurd planned.plan_is
+planned-child state nodes first edit node siblings i n kept planned is_child is same = absurd planned.plan_is
 
 -- a reader sees a node where one is placed
 pub is_some-node_at : (o : Option Placed) → is_some (option_map node_at o) ≡ is_some o
@@ -100,8 +98,7 @@ planned-parent state nodes first (Add parent at kind boxes) node siblings kept p
     let parent_is : node.parent ≡ parent = ap (λ (m : Node). m.parent) planned.plan_is.node_is ∙ parent-node_added page parent kind boxes kept.valid may.present in
     let there : has_id page parent ≡ true = elim may.present [ inl none_named ↦ absurd (is_child (parent_is ∙ none_named)) | inr there' ↦ there' ] in
     subst (λ (o : Option Node). is_some o ≡ true) (sym (kept.looked_up parent) ∙ ap (node_with nodes) (sym parent_is)) (is_some-node_at (placed_of page parent) ∙ there)
-planned-parent state nodes first (Remove id) node siblings kept planned is_child = absurd planned.plan_is
-planned-parent state nodes first (Move _ _ _) node siblings kept planned is_child = absurd planned.plan_is
+planned-parent state nodes first edit node siblings kept planned is_child = absurd planned.plan_is
 
 -- what an add asks of its place, by the parent as a reader sees it
 module _ (page : Contents) (parent : ℕ) where

@@ -7,7 +7,7 @@ ghost use Rattle.box_tree.specs.Kept.{node_with, IsRisingFrom};
 
 use crate::edit::{Done, Edit, EditFault};
 use crate::node::{Node, ORIGIN};
-use crate::plan::{Plan, Prepared, Undo};
+use crate::plan::{Placement, Plan, Prepared, Undo};
 use crate::viewport::Viewport;
 use fractions::{Ledger, Steps};
 use std::alloc::Global;
@@ -16,7 +16,9 @@ use std::snapshot::Snapshot;
 
 mod adds;
 mod moves;
+mod places;
 mod removes;
+mod resizes;
 
 /// A page: a tree of nodes or none, seen through a viewport.
 #[derive(Drop)]
@@ -133,6 +135,20 @@ impl Page {
             } => self.plan_add(*parent, *at, *kind, boxes)?,
             Edit::Remove { id } => self.plan_remove(*id)?,
             Edit::Move { id, parent, at } => self.plan_move(*id, *parent, *at)?,
+            Edit::Place {
+                id,
+                anchor,
+                boxes,
+                max,
+            } => {
+                let placement = Placement {
+                    id: *id,
+                    anchor: *anchor,
+                    max: *max,
+                };
+                self.plan_place(placement, boxes)?
+            }
+            Edit::Resize { w, h, max } => self.plan_resize(*w, *h, *max),
         };
         Ok(Prepared {
             plan,
@@ -169,6 +185,8 @@ impl Page {
                 children,
                 ids,
             } => self.relocate(place, siblings, children, ids, &edit),
+            Plan::PlaceNode { placement, boxes } => self.place(placement, boxes, &edit),
+            Plan::ResizeViewport { w, h, max } => self.resize(w, h, max, &edit),
         };
         Undo {
             done,
