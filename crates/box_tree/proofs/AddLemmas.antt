@@ -11,10 +11,11 @@ use Rattle.box_tree.specs.declared.node.Node.{Node}
 use Rattle.box_tree.specs.declared.edit.Edit.TheVariants.{Add}
 use Rattle.box_tree.specs.declared.edit.EditFault.{EditFault}
 use Rattle.box_tree.specs.Forest.{Label, End, node_count, occurrences}
-use Rattle.box_tree.specs.Contents.{Contents, node_at, node_of, has_id, depth_below, boxes_suit, IsBoxInRange, IsSuited, IsGiven, IsValid}
+use Rattle.box_tree.specs.Contents.{Contents, node_at, node_of, has_id, depth_below, new_label, boxes_suit, IsBoxInRange, IsSuited, IsGiven, IsValid}
 use Rattle.box_tree.specs.Edited.{first_of, faults_of, first_fault, put_below, ancestors_below, child_count}
 use Rattle.box_tree.specs.Kept.{IsKept}
 use Rattle.box_tree.proofs.ForestLemmas.{single, node_in, with_child, placed_in-absent, roots-put_below, occurrences-put_below, node_count-put_below, node_in-put_below, node_in-absent}
+use Rattle.box_tree.proofs.KeptPages.{unscrolled}
 use Rattle.box_tree.proofs.KeptLemmas.{node_with-at, node_with-push, node_with-set, rising-set, rising-push, id_at-set}
 use Rattle.std.proofs.Common.{length-append}
 use Rattle.std.proofs.Math.ListN.{length-set}
@@ -78,7 +79,7 @@ ancestors_below-none page valid = ap (λ p. option_map_or (λ q. q.label ∷ q.a
 
 module _ (page : Contents) (valid : IsValid page) (parent at : ℕ) (kind : Kind) (boxes : List Piece) (in_range : All IsBoxInRange boxes) (may : MayAdd page parent at boxes) where
   abbrev label : Label
-  label = record { id = page.next; kind = kind; boxes = boxes }
+  label = new_label page.next kind boxes
 
   -- the new id was not given yet
   new_absent : occurrences page.tree page.next ≡ 0
@@ -88,7 +89,12 @@ module _ (page : Contents) (valid : IsValid page) (parent at : ℕ) (kind : Kind
   new_given above = record { positive = valid.next.0; below_next = omega arith }
 
   new_suited : IsSuited (ancestors_below page parent) label
-  new_suited = record { boxes = may.suits; in_range = in_range }
+  new_suited = record {
+    boxes = may.suits;
+    in_range = in_range;
+    anchor = record { x = (omega arith, omega arith); y = (omega arith, omega arith) };
+    scroll = unscrolled;
+  }
 
   -- as the root
   valid-root : parent ≡ 0 → IsValid (record page { tree = single label End; next = page.next + 1 })

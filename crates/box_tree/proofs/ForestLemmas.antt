@@ -1,5 +1,5 @@
 -- What holds of every forest.
-use Rattle.std.proofs.Common.{◌≡◌, ◌≢◌, ◌⊎◌, ℕ, zero, suc, ◌+◌, ◌<◌, ◌≤◌, ◌==◌, List, [], ◌∷◌, length, Option, Some, None, if◌then◌else◌, true, false, is_some, refl, sym, ap, subst, inl, inr, arith}
+use Rattle.std.proofs.Common.{◌≡◌, ◌≢◌, ◌⊎◌, ℕ, zero, suc, ◌+◌, ◌<◌, ◌≤◌, ◌==◌, List, [], ◌∷◌, length, Option, Some, None, if◌then◌else◌, Bool, true, false, is_some, refl, sym, ap, subst, inl, inr, arith}
 use Rattle.std.specs.Option.{option_or, option_map, option_map_or}
 use mathlib.Core.Bool.{false≢true}
 use Rattle.std.proofs.lemmas.Bool.{cases_lt, cases_eq}
@@ -96,6 +96,11 @@ children_in above f id = option_map_or (λ p. length (roots_of p.below)) (placed
 pub map-or : {A B : Type 0} (f : A → B) (x y : Option A) → option_map f (option_or x y) ≡ option_or (option_map f x) (option_map f y)
 map-or f None y = refl
 map-or f (Some x) y = refl
+
+-- of one, or of one of two others, each changed
+pub if_map : {X Y : Type 0} (g : X → Y) (b : Bool) (x : X) (o o' : Option X) (y : Y) (u u' : Option Y) → y ≡ g x → u ≡ option_map g o → u' ≡ option_map g o' → (if b then Some y else option_or u u') ≡ option_map g (if b then Some x else option_or o o')
+if_map g true x o o' y u u' same first second = ap Some same
+if_map g false x o o' y u u' same first second = rw (first, second) (sym (map-or g o o'))
 
 or_assoc : {A : Type 0} (x y z : Option A) → option_or (option_or x y) z ≡ option_or x (option_or y z)
 or_assoc None y z = refl

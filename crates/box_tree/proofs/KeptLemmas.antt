@@ -10,6 +10,7 @@ use Rattle.std.proofs.lemmas.Bool.Decides.{nat_tests}
 use Rattle.box_tree.specs.declared.kind.Kind.TheVariants.{Block}
 use Rattle.box_tree.specs.declared.node.Node.{Node}
 use Rattle.std.specs.List.{insert, filter}
+use Rattle.box_tree.specs.Contents.{origin}
 use Rattle.box_tree.specs.Kept.{node_with, IsRisingFrom}
 use Rattle.box_tree.specs.Planned.{is_among}
 use Rattle.box_tree.proofs.ForestLemmas.{with_child}
@@ -46,7 +47,7 @@ pub record Finds (nodes : List Node) (id : ℕ) (r : Result ℕ ℕ) : Type 0 wh
 
 -- a node that stands for one past the end of a list
 abbrev no_node : Node
-no_node = record { id = 0; kind = Block; parent = 0; children = []; depth = 0; boxes = [] }
+no_node = record { id = 0; kind = Block; parent = 0; children = []; depth = 0; anchor = origin; boxes = []; scroll = origin; max = origin }
 
 module _ (nodes : List Node) (rising : IsRisingFrom 0 nodes) (id : ℕ) where
   -- the comparisons with the id rise along the nodes, as a search asks

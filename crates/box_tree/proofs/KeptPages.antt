@@ -3,7 +3,7 @@ use Rattle.std.proofs.Common.{◌≡◌, ℕ, zero, suc, ◌^◌, ℤ, pos, ◌�
 use Rattle.std.specs.Option.{option_to_list}
 use Rattle.box_tree.specs.declared.node.Node.{Node}
 use Rattle.box_tree.specs.Forest.{Forest, End, Grow, roots_of, node_count}
-use Rattle.box_tree.specs.Contents.{Contents, empty_page}
+use Rattle.box_tree.specs.Contents.{Contents, origin, empty_page, IsScrolled}
 use Rattle.box_tree.specs.Kept.{grown, levels_at_most, page_of, IsKept}
 use Rattle.box_tree.proofs.Grown.{grown-kept}
 
@@ -23,6 +23,14 @@ page_of-kept nodes first page kept =
 pub kept-page_of : (nodes : List Node) (first : Option ℕ) (page : Contents) → IsKept nodes first page → IsKept nodes first (page_of nodes first page.viewport page.next)
 kept-page_of nodes first page kept = subst (IsKept nodes first) (sym (page_of-kept nodes first page kept)) kept
 
+-- what can't be scrolled is not scrolled
+pub unscrolled : IsScrolled origin origin
+unscrolled = record {
+  greatest = record { x = (omega arith, omega arith); y = (omega arith, omega arith) };
+  x = (omega arith, omega arith);
+  y = (omega arith, omega arith);
+}
+
 -- no nodes are kept for an empty page
 pub empty-kept : (w h : ℤ) → (pos 1 ≤ℤ w) × (w ≤ℤ pos (2 ^ 20)) → (pos 1 ≤ℤ h) × (h ≤ℤ pos (2 ^ 20)) → IsKept [] None (empty_page w h)
 empty-kept w h width height = record {
@@ -37,10 +45,7 @@ empty-kept w h width height = record {
     viewport = record {
       width = width;
       height = height;
-      max_x = (omega arith, omega arith);
-      max_y = (omega arith, omega arith);
-      scroll_x = (omega arith, omega arith);
-      scroll_y = (omega arith, omega arith);
+      scroll = unscrolled;
     };
   };
   looked_up = λ id. refl;

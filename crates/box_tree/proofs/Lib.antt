@@ -11,3 +11,4 @@ pub mod TakenLemmas
 pub mod CountLemmas
 pub mod RemoveLemmas
 pub mod MoveLemmas
+pub mod PlaceLemmas

@@ -8,7 +8,7 @@ use Rattle.std.proofs.lemmas.Bool.{cases_lt, cases_eq}
 use Rattle.std.proofs.lemmas.Bool.Decides.{nat_tests}
 use Rattle.box_tree.specs.declared.node.Node.{Node}
 use Rattle.box_tree.specs.declared.edit.Edit.{Edit}
-use Rattle.box_tree.specs.declared.edit.Edit.TheVariants.{Add, Remove, Move}
+use Rattle.box_tree.specs.declared.edit.Edit.TheVariants.{Move}
 use Rattle.box_tree.specs.declared.plan.Relocation.{Relocation}
 use Rattle.box_tree.specs.declared.plan.Plan.TheVariants.{MoveNodes}
 use Rattle.box_tree.specs.Forest.{Label, Forest, End, Grow, roots_of, node_count, height_of, occurrences, Placed, placed_in, EachNode}
@@ -17,7 +17,7 @@ use Rattle.box_tree.specs.Edited.{taken_out, put_below, moved, page_without, is_
 use Rattle.box_tree.specs.Kept.{node_with, IsRisingFrom, IsKept}
 use Rattle.box_tree.specs.PageState.{PageState}
 use Rattle.box_tree.specs.Planned.{ids_without, is_among, children_without, relocated, relocated_among, IsPlaceFor, IsPlanned}
-use Rattle.box_tree.proofs.ForestLemmas.{single, placed_in-head, placed_in-present, node_in, with_child, ancestors_in, map-or, or-none, node_in-cons, node_in-absent, node_in-put_below, occurrences-put_below, roots-put_below, node_count-put_below}
+use Rattle.box_tree.proofs.ForestLemmas.{single, placed_in-head, placed_in-present, node_in, with_child, ancestors_in, if_map, or-none, node_in-cons, node_in-absent, node_in-put_below, occurrences-put_below, roots-put_below, node_count-put_below}
 use Rattle.box_tree.proofs.PutLemmas.{each-put_below, height-put_below}
 use Rattle.box_tree.proofs.KeptLemmas.{node_with-slice, node_with-replaced, rising-set, other_child}
 use Rattle.box_tree.proofs.AddLemmas.{none_holds, once_there}
@@ -91,9 +91,9 @@ above-placed_in (Grow n below others) above id p found = elim (found_in n below 
 abbrev pub at_depth : ℕ → ℕ → Node → Node
 at_depth old new n = record n { depth = n.depth - old + new }
 
-if_map : {X Y : Type 0} (g : X → Y) (b : Bool) (x : X) (o o' : Option X) (y : Y) (u u' : Option Y) → y ≡ g x → u ≡ option_map g o → u' ≡ option_map g o' → (if b then Some y else option_or u u') ≡ option_map g (if b then Some x else option_or o o')
-if_map g true x o o' y u u' same first second = ap Some same
-if_map g false x o o' y u u' same first second = rw (first, second) (sym (map-or g o o'))
+-- a node whose parent and depth are equal
+with_both : (n : Node) (p p' d d' : ℕ) → p ≡ p' → d ≡ d' → record n { parent = p; depth = d } ≡ record n { parent = p'; depth = d' }
+with_both n p p' d d' parents depths = rw (parents, depths) refl
 
 -- nodes that stand below a node are at another depth where it has other ancestors, and else the same
 pub node_in-elsewhere : (f : Forest) (first : List Label) (n : Label) (above above' : List Label) (id : ℕ) → node_in (first ++ n ∷ above') f id ≡ option_map (at_depth (1 + length above) (1 + length above')) (node_in (first ++ n ∷ above) f id)
@@ -109,15 +109,11 @@ node_in-elsewhere (Grow m below others) first n above above' id =
     same : node_at (record { label = m; above = first ++ n ∷ above'; below = below }) ≡ at_depth (1 + length above) (1 + length above') (node_at (record { label = m; above = first ++ n ∷ above; below = below }))
     same =
         let deep : 1 + length (first ++ n ∷ above') ≡ 1 + length (first ++ n ∷ above) - (1 + length above) + (1 + length above') = omega (arith, length-append first (n ∷ above'), length-append first (n ∷ above)) in
-        ap (λ d. let m' : Node = record { id = m.id; kind = m.kind; parent = parent_id (first ++ n ∷ above'); children = roots_of below; depth = d; boxes = m.boxes } in m') deep
-        ∙ ap (λ k. let m' : Node = record { id = m.id; kind = m.kind; parent = k; children = roots_of below; depth = 1 + length (first ++ n ∷ above) - (1 + length above) + (1 + length above'); boxes = m.boxes } in m') (parent_same first)
+        with_both (node_at (record { label = m; above = first ++ n ∷ above; below = below })) _ _ _ _ (parent_same first) deep
 
 -- a node below the head of a tree
 node_in-single : (n : Label) (below : Forest) (above : List Label) (id : ℕ) → n.id ≢ id → node_in above (single n below) id ≡ node_in (n ∷ above) below id
 node_in-single n below above id other = rw (node_in-cons n below End above id) (grind (arith, nat_tests, or-none (node_in (n ∷ above) below id)))
-
-with_both : (n : Node) (p p' d d' : ℕ) → p ≡ p' → d ≡ d' → record n { parent = p; depth = d } ≡ record n { parent = p'; depth = d' }
-with_both n p p' d d' parents depths = rw (parents, depths) refl
 
 -- ids are all kept where none is the one that goes
 ids_without-none : (ids : List ℕ) (id : ℕ) → is_among ids id ≡ false → ids_without id ids ≡ ids
@@ -209,7 +205,7 @@ module _ (page : Contents) (valid : IsValid page) (id parent at : ℕ) (q : Plac
     one_tree = rw (roots-put_below rest parent at q.label q.below, roots-taken_out page.tree id) (omega (arith, length-ids_without (roots_of page.tree) id, valid.one_tree));
     distinct = λ k. rw (occurrences-put_below rest parent at q.label q.below k once) (omega (arith, parted k, valid.distinct k));
     given = each-put_below (IsGiven page.next) rest [] parent at q.label q.below once (each-taken_out (IsGiven page.next) page.tree [] id valid.given) (elsewhere (IsGiven page.next) (λ a b above above' n given. record { positive = given.positive; below_next = given.below_next }) valid.given);
-    suited = each-put_below IsSuited rest [] parent at q.label q.below once (each-taken_out IsSuited page.tree [] id valid.suited) (elsewhere IsSuited (λ a b above above' n suited. record { boxes = suited.boxes; in_range = suited.in_range }) valid.suited);
+    suited = each-put_below IsSuited rest [] parent at q.label q.below once (each-taken_out IsSuited page.tree [] id valid.suited) (elsewhere IsSuited (λ a b above above' n suited. record { boxes = suited.boxes; in_range = suited.in_range; anchor = suited.anchor; scroll = suited.scroll }) valid.suited);
     depth = omega (arith, height-put_below rest [] parent at q.label q.below 256 once (omega (arith, height-taken_out page.tree id, valid.depth)) (omega (arith, may.depth, ap (λ (a : List Label). length a) ancestors_are, ap height_of tree_is)));
     nodes = rw (node_count-put_below rest parent at q.label q.below once) (omega (arith, valid.nodes, node_count-parted page.tree [] id (valid.distinct id), ap node_count tree_is));
     next = valid.next;
@@ -391,8 +387,6 @@ length-others page valid id parent there apart =
 module _ (state : PageState) (nodes : List Node) (first : Option ℕ) (r : Relocation) (siblings children ids : List ℕ) (kept : IsKept nodes first state.contents) where
   -- the old parent is one of the nodes
   pub planned-from : (edit : Edit) → IsPlanned (MoveNodes r siblings children ids) edit state → IsSome (node_with nodes r.from)
-  planned-from (Add _ _ _ _) planned = absurd planned.plan_is
-  planned-from (Remove _) planned = absurd planned.plan_is
   planned-from (Move id parent at) planned =
       let page = state.contents in
       let placed = placed_below page id r.from planned.plan_is.place_is.from_is in
@@ -400,12 +394,11 @@ module _ (state : PageState) (nodes : List Node) (first : Option ℕ) (r : Reloc
       let above = old_parent page kept.valid id parent at placed.place placed.found may in
       let from_there : has_id page r.from ≡ true = ap (has_id page) (sym placed.parent_is ∙ ap parent_id above.above_is) ∙ ap is_some above.found in
       subst (λ (o : Option Node). is_some o ≡ true) (sym (kept.looked_up r.from)) (is_some-node_at (placed_of page r.from) ∙ from_there)
+  planned-from edit planned = absurd planned.plan_is
 
   module _ (i : ℕ) (n : Node) (is : slice_get nodes i ≡ Some n) (same : n.id ≡ r.from) where
     -- and so is the new one
     pub planned-to : (edit : Edit) → IsPlanned (MoveNodes r siblings children ids) edit state → IsSome (node_with (set nodes i (record n { children = siblings })) r.parent)
-    planned-to (Add _ _ _ _) planned = absurd planned.plan_is
-    planned-to (Remove _) planned = absurd planned.plan_is
     planned-to (Move id parent at) planned =
         let page = state.contents in
         let may = may_move page id parent at planned.faultless in
@@ -416,11 +409,10 @@ module _ (state : PageState) (nodes : List Node) (first : Option ℕ) (r : Reloc
         either : (b : Bool) (o : Option Node) → is_some o ≡ true → is_some (if b then Some (record n { children = siblings }) else o) ≡ true
         either true o there = refl
         either false o there = there
+    planned-to edit planned = absurd planned.plan_is
 
     pub planned-moved : (edit : Edit) (j : ℕ) (m : Node) → IsPlanned (MoveNodes r siblings children ids) edit state → slice_get (set nodes i (record n { children = siblings })) j ≡ Some m → m.id ≡ r.parent →
         MeansEdited (map (relocated_among r ids) (set (set nodes i (record n { children = siblings })) j (record m { children = children }))) first state.contents.viewport state.contents.next state.contents edit
-    planned-moved (Add _ _ _ _) j m planned is' same' = absurd planned.plan_is
-    planned-moved (Remove _) j m planned is' same' = absurd planned.plan_is
     planned-moved (Move id parent at) j m planned is' same' =
         let page = state.contents in
         let plan = planned.plan_is in
@@ -432,3 +424,4 @@ module _ (state : PageState) (nodes : List Node) (first : Option ℕ) (r : Reloc
         let moved_is : moved page id parent at ≡ put_below parent at q.label q.below (taken_out id page.tree) = ap (λ o. option_map_or (λ p. put_below parent at p.label p.below (taken_out id page.tree)) o page.tree) placed.found in
         means_edited _ first page (Move id parent at)
         (rw moved_is (kept-moved page kept.valid id parent at q placed.found may r plan.place_is ids plan.ids_are.ids_are first nodes i n j m siblings children kept is same siblings_are is' (same' ∙ plan.place_is.parent_is) plan.children_are))
+    planned-moved edit j m planned is' same' = absurd planned.plan_is

@@ -11,10 +11,10 @@ use Rattle.box_tree.specs.declared.piece.Piece.{Piece}
 use Rattle.box_tree.specs.declared.node.Node.{Node}
 use Rattle.box_tree.specs.declared.viewport.Viewport.{Viewport}
 use Rattle.box_tree.specs.declared.edit.Edit.{Edit}
-use Rattle.box_tree.specs.declared.edit.Edit.TheVariants.{Add, Remove, Move}
+use Rattle.box_tree.specs.declared.edit.Edit.TheVariants.{Add}
 use Rattle.box_tree.specs.declared.plan.Plan.TheVariants.{AddNode}
 use Rattle.box_tree.specs.Forest.{Label, Forest, End, Grow, roots_of, Placed, placed_in}
-use Rattle.box_tree.specs.Contents.{Contents, node_at, node_of, placed_of, has_id, parent_id, boxes_suit, IsValid}
+use Rattle.box_tree.specs.Contents.{Contents, node_at, node_of, placed_of, origin, new_label, has_id, parent_id, boxes_suit, IsValid}
 use Rattle.box_tree.specs.Edited.{edited, planted, put_below, ancestors_below, child_count}
 use Rattle.box_tree.specs.Kept.{node_with, page_of, IsKept}
 use Rattle.box_tree.specs.PageState.{PageState}
@@ -65,11 +65,10 @@ planned-root state nodes first (Add parent at kind boxes) node siblings kept pla
     let page = state.contents in
     let may = may_add page parent at kind boxes planned.faultless in
     let none_named : parent ≡ 0 = sym (parent-node_added page parent kind boxes kept.valid may.present) ∙ sym (ap (λ (n : Node). n.parent) planned.plan_is.node_is) ∙ is_root in
-    let tree_is = planted-root parent at (record { id = page.next; kind = kind; boxes = boxes }) page.tree none_named in
+    let tree_is = planted-root parent at (new_label page.next kind boxes) page.tree none_named in
     rw planned.plan_is.node_is (means_edited _ _ page (Add parent at kind boxes)
     (rw tree_is (kept-root page kept.valid parent at kind boxes planned.in_range may none_named first nodes kept)))
-planned-root state nodes first (Remove id) node siblings kept planned is_root = absurd planned.plan_is
-planned-root state nodes first (Move _ _ _) node siblings kept planned is_root = absurd planned.plan_is
+planned-root state nodes first edit node siblings kept planned is_root = absurd planned.plan_is
 
 -- a planned add of a child
 pub planned-child : (state : PageState) (nodes : List Node) (first : Option ℕ) (edit : Edit) (node : Node) (siblings : List ℕ) (i : ℕ) (n : Node) → IsKept nodes first state.contents → IsPlanned (AddNode node siblings) edit state → node.parent ≢ 0 → slice_get nodes i ≡ Some n → n.id ≡ node.parent → MeansEdited (set nodes i (record n { children = siblings }) ++ node ∷ []) first state.contents.viewport (state.contents.next + 1) state.contents edit
@@ -81,11 +80,10 @@ planned-child state nodes first (Add parent at kind boxes) node siblings i n kep
     let there : has_id page parent ≡ true = elim may.present [ inl none_named ↦ absurd (named none_named) | inr there' ↦ there' ] in
     let found : node_of page parent ≡ Some n = sym (kept.looked_up parent) ∙ ap (node_with nodes) (sym (same ∙ parent_is)) ∙ node_with-slice nodes 0 i n kept.rising is in
     let siblings_are : siblings ≡ insert n.children at page.next = planned.plan_is.siblings_are ∙ ap (λ o. option_map_or (λ (m : Node). insert m.children at page.next) o []) found in
-    let tree_is = planted-below parent at (record { id = page.next; kind = kind; boxes = boxes }) page.tree named in
+    let tree_is = planted-below parent at (new_label page.next kind boxes) page.tree named in
     rw (siblings_are, planned.plan_is.node_is) (means_edited _ _ page (Add parent at kind boxes)
     (rw tree_is (kept-below page kept.valid parent at kind boxes planned.in_range may there first nodes i n kept is (same ∙ parent_is))))
-planned-child state nodes first (Remove id) node siblings i n kept planned is_child is same = absurd planned.plan_is
-planned-child state nodes first (Move _ _ _) node siblings i n kept planned is_child is same = absurd planned.plan_is
+planned-child state nodes first edit node siblings i n kept planned is_child is same = absurd planned.plan_is
 
 -- a reader sees a node where one is placed
 pub is_some-node_at : (o : Option Placed) → is_some (option_map node_at o) ≡ is_some o
@@ -100,8 +98,7 @@ planned-parent state nodes first (Add parent at kind boxes) node siblings kept p
     let parent_is : node.parent ≡ parent = ap (λ (m : Node). m.parent) planned.plan_is.node_is ∙ parent-node_added page parent kind boxes kept.valid may.present in
     let there : has_id page parent ≡ true = elim may.present [ inl none_named ↦ absurd (is_child (parent_is ∙ none_named)) | inr there' ↦ there' ] in
     subst (λ (o : Option Node). is_some o ≡ true) (sym (kept.looked_up parent) ∙ ap (node_with nodes) (sym parent_is)) (is_some-node_at (placed_of page parent) ∙ there)
-planned-parent state nodes first (Remove id) node siblings kept planned is_child = absurd planned.plan_is
-planned-parent state nodes first (Move _ _ _) node siblings kept planned is_child = absurd planned.plan_is
+planned-parent state nodes first edit node siblings kept planned is_child = absurd planned.plan_is
 
 -- what an add asks of its place, by the parent as a reader sees it
 module _ (page : Contents) (parent : ℕ) where
@@ -128,8 +125,8 @@ module _ (page : Contents) (parent : ℕ) where
 
 -- the node that an add makes, field by field
 pub node_is-added : (page : Contents) (parent : ℕ) (kind : Kind) (boxes : List Piece) (id depth : ℕ) (children : List ℕ) (own : List Piece) → IsValid page → (parent ≡ 0) ⊎ (has_id page parent ≡ true) → id ≡ page.next → children ≡ [] → depth ≡ option_map_or (λ (n : Node). n.depth) (node_of page parent) 0 → own ≡ boxes →
-    let made : Node = record { id = id; kind = kind; parent = parent; children = children; depth = depth + 1; boxes = own } in made ≡ node_added page parent kind boxes
+    let made : Node = record { id = id; kind = kind; parent = parent; children = children; depth = depth + 1; anchor = origin; boxes = own; scroll = origin; max = origin } in made ≡ node_added page parent kind boxes
 node_is-added page parent kind boxes id depth children own valid present id_is children_are depth_is own_is =
     let parent_is = parent-node_added page parent kind boxes valid present in
     let depth_is' : depth + 1 ≡ 1 + length (ancestors_below page parent) = omega (arith, length-ancestors_below page parent, depth_is) in
-    rw (id_is, children_are, depth_is', own_is) (ap (λ (k : ℕ). let made : Node = record { id = page.next; kind = kind; parent = k; children = []; depth = 1 + length (ancestors_below page parent); boxes = boxes } in made) (sym parent_is))
+    rw (id_is, children_are, depth_is', own_is) (ap (λ (k : ℕ). let made : Node = record { id = page.next; kind = kind; parent = k; children = []; depth = 1 + length (ancestors_below page parent); anchor = origin; boxes = boxes; scroll = origin; max = origin } in made) (sym parent_is))

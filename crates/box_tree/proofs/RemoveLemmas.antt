@@ -7,7 +7,7 @@ use Rattle.std.proofs.lemmas.Bool.{cases_lt, cases_eq}
 use Rattle.std.proofs.lemmas.Bool.Decides.{nat_tests}
 use Rattle.box_tree.specs.declared.node.Node.{Node}
 use Rattle.box_tree.specs.declared.edit.Edit.{Edit}
-use Rattle.box_tree.specs.declared.edit.Edit.TheVariants.{Add, Remove, Move}
+use Rattle.box_tree.specs.declared.edit.Edit.TheVariants.{Remove}
 use Rattle.box_tree.specs.declared.plan.Plan.TheVariants.{RemoveNodes}
 use Rattle.box_tree.specs.Forest.{Forest, End, Grow, roots_of, occurrences, Placed, placed_in}
 use Rattle.box_tree.specs.Contents.{Contents, node_at, node_of, placed_of, tree_of, has_id, parent_id, IsGiven, IsSuited, IsValid}
@@ -148,8 +148,6 @@ placed_below page id parent is = by_place (placed_of page id) refl is
 
 -- a planned remove of the root
 pub planned-remove_root : (state : PageState) (nodes : List Node) (first : Option ℕ) (edit : Edit) (parent : ℕ) (siblings gone : List ℕ) → IsKept nodes first state.contents → IsPlanned (RemoveNodes parent siblings gone) edit state → parent ≡ 0 → MeansEdited [] None state.contents.viewport state.contents.next state.contents edit
-planned-remove_root state nodes first (Add _ _ _ _) parent siblings gone kept planned is_root = absurd planned.plan_is
-planned-remove_root state nodes first (Move _ _ _) parent siblings gone kept planned is_root = absurd planned.plan_is
 planned-remove_root state nodes first (Remove id) parent siblings gone kept planned is_root =
     let page = state.contents in
     let placed = placed_below page id parent planned.plan_is.parent_is in
@@ -157,11 +155,10 @@ planned-remove_root state nodes first (Remove id) parent siblings gone kept plan
       | inl at_head ↦ means_edited [] None page (Remove id) (kept-none page kept.valid id at_head.0)
       | inr there ↦ absurd (false≢true (sym (ap is_some (placed_in-absent page.tree [] 0 (given-absent page.tree [] page.next 0 kept.valid.given (inl refl)))) ∙ ap (has_id page) (sym (placed.parent_is ∙ is_root)) ∙ there))
     ]
+planned-remove_root state nodes first edit parent siblings gone kept planned is_root = absurd planned.plan_is
 
 -- the parent of a node that goes is one of the nodes
 pub planned-remove_parent : (state : PageState) (nodes : List Node) (first : Option ℕ) (edit : Edit) (parent : ℕ) (siblings gone : List ℕ) → IsKept nodes first state.contents → IsPlanned (RemoveNodes parent siblings gone) edit state → parent ≢ 0 → IsSome (node_with nodes parent)
-planned-remove_parent state nodes first (Add _ _ _ _) parent siblings gone kept planned is_child = absurd planned.plan_is
-planned-remove_parent state nodes first (Move _ _ _) parent siblings gone kept planned is_child = absurd planned.plan_is
 planned-remove_parent state nodes first (Remove id) parent siblings gone kept planned is_child =
     let page = state.contents in
     let placed = placed_below page id parent planned.plan_is.parent_is in
@@ -170,15 +167,15 @@ planned-remove_parent state nodes first (Remove id) parent siblings gone kept pl
       | inr there' ↦ ap (has_id page) (sym placed.parent_is) ∙ there'
     ] in
     subst (λ (o : Option Node). is_some o ≡ true) (sym (kept.looked_up parent)) (is_some-node_at (placed_of page parent) ∙ there)
+planned-remove_parent state nodes first edit parent siblings gone kept planned is_child = absurd planned.plan_is
 
 -- a planned remove of a child
 pub planned-remove_child : (state : PageState) (nodes : List Node) (first : Option ℕ) (edit : Edit) (parent : ℕ) (siblings gone : List ℕ) (i : ℕ) (n : Node) → IsKept nodes first state.contents → IsPlanned (RemoveNodes parent siblings gone) edit state → parent ≢ 0 → slice_get nodes i ≡ Some n → n.id ≡ parent →
     MeansEdited (filter (λ m. not (is_among gone m.id)) (set nodes i (record n { children = siblings }))) first state.contents.viewport state.contents.next state.contents edit
-planned-remove_child state nodes first (Add _ _ _ _) parent siblings gone i n kept planned is_child is same = absurd planned.plan_is
-planned-remove_child state nodes first (Move _ _ _) parent siblings gone i n kept planned is_child is same = absurd planned.plan_is
 planned-remove_child state nodes first (Remove id) parent siblings gone i n kept planned is_child is same =
     let page = state.contents in
     let placed = placed_below page id parent planned.plan_is.parent_is in
     let found : node_of page parent ≡ Some n = sym (kept.looked_up parent) ∙ ap (node_with nodes) (sym same) ∙ node_with-slice nodes 0 i n kept.rising is in
     let siblings_are : siblings ≡ ids_without id n.children = planned.plan_is.siblings_are ∙ ap (λ o. option_map_or (λ (m : Node). ids_without id m.children) o []) found in
     rw siblings_are (means_edited _ first page (Remove id) (kept-removed page kept.valid id placed.place placed.found parent placed.parent_is is_child first nodes i n gone kept is same planned.plan_is.gone_are.ids_are))
+planned-remove_child state nodes first edit parent siblings gone i n kept planned is_child is same = absurd planned.plan_is

@@ -2,6 +2,8 @@
 use Rattle.std.specs.Prelude.{ℕ, ◌+◌, ◌<◌, ◌≤◌, ◌^◌, List, [], ◌∷◌, length, Option, Bool, not, ◌==◌, nat_le, is_some, IsTrue, ℤ, pos, ◌≤ℤ◌, ◌+ℤ◌, neg_ℤ, map, All}
 use Rattle.std.specs.List.{filter}
 use Rattle.std.specs.Option.{option_map, option_map_or}
+use Rattle.fractions.specs.declared.rect.Spot.{Spot}
+use Rattle.box_tree.specs.declared.kind.Kind.{Kind}
 use Rattle.box_tree.specs.declared.piece.Piece.{Piece}
 use Rattle.box_tree.specs.declared.node.Node.{Node}
 use Rattle.box_tree.specs.declared.viewport.Viewport.{Viewport}
@@ -30,7 +32,10 @@ node_at p = record {
   parent = parent_id p.above;
   children = roots_of p.below;
   depth = depth_below p.above;
+  anchor = p.label.anchor;
   boxes = p.label.boxes;
+  scroll = p.label.scroll;
+  max = p.label.max;
 }
 
 -- the place of an id in the page
@@ -62,11 +67,19 @@ has_box n = not (length n.boxes == 0)
 abbrev pub items_of : Contents → List ℕ
 items_of page = map (λ n. n.id) (filter has_box (tree_order page.tree))
 
+-- the point 0, 0
+abbrev pub origin : Spot
+origin = record { x = pos 0; y = pos 0 }
+
+-- what a new node is: it has no anchor, and nothing to scroll
+abbrev pub new_label : ℕ → Kind → List Piece → Label
+new_label id kind boxes = record { id = id; kind = kind; anchor = origin; boxes = boxes; scroll = origin; max = origin }
+
 -- a page with no node, seen through an unscrolled viewport of these sides
 abbrev pub empty_page : ℤ → ℤ → Contents
 empty_page w h = record {
   tree = End;
-  viewport = record { w = w; h = h; scroll = record { x = pos 0; y = pos 0 }; max = record { x = pos 0; y = pos 0 } };
+  viewport = record { w = w; h = h; scroll = origin; max = origin };
   next = 1;
 }
 
@@ -77,6 +90,22 @@ IsWithin bits x = (neg_ℤ (pos (2 ^ bits)) ≤ℤ x) × (x ≤ℤ pos (2 ^ bits
 -- from 0 to 2 ^ bits
 abbrev pub IsSide : ℕ → ℤ → Type 0
 IsSide bits x = (pos 0 ≤ℤ x) × (x ≤ℤ pos (2 ^ bits))
+
+-- a point within the limits
+pub record IsSpotInRange (spot : Spot) : Type 0 where
+  pub x : IsWithin 26 spot.x
+  pub y : IsWithin 26 spot.y
+
+-- a greatest scroll within the limits
+pub record IsMaxInRange (max : Spot) : Type 0 where
+  pub x : IsSide 26 max.x
+  pub y : IsSide 26 max.y
+
+-- a scroll between 0 and the greatest one, which is within the limits (CSSOM View, 4)
+pub record IsScrolled (scroll max : Spot) : Type 0 where
+  pub greatest : IsMaxInRange max
+  pub x : (pos 0 ≤ℤ scroll.x) × (scroll.x ≤ℤ max.x)
+  pub y : (pos 0 ≤ℤ scroll.y) × (scroll.y ≤ℤ max.y)
 
 -- a span from an edge on within the limits, its end too
 pub record IsSpanInRange (from side : ℤ) : Type 0 where
@@ -94,24 +123,23 @@ abbrev pub boxes_suit : List Label → List Piece → Bool
 boxes_suit [] boxes = length boxes == 1
 boxes_suit (parent ∷ above) boxes = nat_le (length boxes) 1
 
--- a node suits its place
+-- a node suits its place, and its numbers are within the limits
 pub record IsSuited (above : List Label) (n : Label) : Type 0 where
   pub boxes : IsTrue (boxes_suit above n.boxes)
   pub in_range : All IsBoxInRange n.boxes
+  pub anchor : IsSpotInRange n.anchor
+  pub scroll : IsScrolled n.scroll n.max
 
 -- an id that was given
 pub record IsGiven (next : ℕ) (above : List Label) (n : Label) : Type 0 where
   pub positive : 0 < n.id
   pub below_next : n.id < next
 
--- a viewport within the limits, whose scroll is between 0 and the greatest one
+-- a viewport within the limits
 pub record IsViewport (v : Viewport) : Type 0 where
   pub width : (pos 1 ≤ℤ v.w) × (v.w ≤ℤ pos (2 ^ 20))
   pub height : (pos 1 ≤ℤ v.h) × (v.h ≤ℤ pos (2 ^ 20))
-  pub max_x : IsSide 26 v.max.x
-  pub max_y : IsSide 26 v.max.y
-  pub scroll_x : (pos 0 ≤ℤ v.scroll.x) × (v.scroll.x ≤ℤ v.max.x)
-  pub scroll_y : (pos 0 ≤ℤ v.scroll.y) × (v.scroll.y ≤ℤ v.max.y)
+  pub scroll : IsScrolled v.scroll v.max
 
 -- what holds of the contents of every page
 pub record IsValid (page : Contents) : Type 0 where

@@ -1,21 +1,39 @@
 -- What an edit makes of a page, and why it may be refused.
-use Rattle.std.specs.Prelude.{ℕ, zero, suc, ◌+◌, List, [], ◌∷◌, length, Option, Some, None, Bool, not, ◌&&◌, ◌||◌, if◌then◌else◌, ◌==◌, nat_lt, nat_le, All, codes}
+use Rattle.std.specs.Prelude.{ℕ, zero, suc, ◌+◌, List, [], ◌∷◌, length, Option, Some, None, Bool, not, ◌&&◌, ◌||◌, if◌then◌else◌, ◌==◌, nat_lt, nat_le, All, codes, ℤ, pos, ◌^◌, ◌≤ℤ◌}
 use Rattle.std.specs.Option.{option_map_or}
+use Rattle.std.specs.Int.{int_min, int_max}
 use Rattle.std.specs.List.{list_any}
+use Rattle.fractions.specs.declared.rect.Spot.{Spot}
+use Rattle.box_tree.specs.declared.piece.Piece.{Piece}
+use Rattle.box_tree.specs.declared.viewport.Viewport.{Viewport}
 use Rattle.box_tree.specs.declared.edit.Edit.{Edit}
-use Rattle.box_tree.specs.declared.edit.Edit.TheVariants.{Add, Remove, Move}
+use Rattle.box_tree.specs.declared.edit.Edit.TheVariants.{Add, Remove, Move, Place, Resize}
 use Rattle.box_tree.specs.declared.edit.Done.{Done}
 use Rattle.box_tree.specs.declared.edit.Done.TheVariants.{Node as NodeAdded, Done as EditDone}
 use Rattle.box_tree.specs.declared.edit.EditFault.{EditFault}
 use Rattle.box_tree.specs.declared.edit.EditFault.TheVariants as fault
 use Rattle.box_tree.specs.Forest.{Label, Forest, End, Grow, roots_of, node_count, height_of, occurrences}
-use Rattle.box_tree.specs.Contents.{Contents, placed_of, tree_of, has_id, depth_below, boxes_suit, IsBoxInRange}
+use Rattle.box_tree.specs.Contents.{Contents, placed_of, tree_of, has_id, depth_below, new_label, boxes_suit, IsBoxInRange, IsSpotInRange, IsMaxInRange}
+
+-- the numbers of a place are within their limits
+pub record IsPlaceInRange (anchor : Spot) (boxes : List Piece) (max : Spot) : Type 0 where
+  pub anchor_in_range : IsSpotInRange anchor
+  pub boxes_in_range : All IsBoxInRange boxes
+  pub max_in_range : IsMaxInRange max
+
+-- the numbers of a resize are within their limits
+pub record IsResizeInRange (w h : ℤ) (max : Spot) : Type 0 where
+  pub width : (pos 1 ≤ℤ w) × (w ≤ℤ pos (2 ^ 20))
+  pub height : (pos 1 ≤ℤ h) × (h ≤ℤ pos (2 ^ 20))
+  pub max_in_range : IsMaxInRange max
 
 -- the numbers of an edit are within their limits
 abbrev pub IsInRange : Edit → Type 0
 IsInRange (Add parent at kind boxes) = All IsBoxInRange boxes
 IsInRange (Remove id) = Unit {0}
 IsInRange (Move id parent at) = Unit {0}
+IsInRange (Place id anchor boxes max) = IsPlaceInRange anchor boxes max
+IsInRange (Resize w h max) = IsResizeInRange w h max
 
 -- the trees with one more at place `at`
 abbrev pub put_in : ℕ → Label → Forest → Forest → Forest
@@ -44,24 +62,54 @@ taken_out id (Grow first firsts others) =
 abbrev pub moved : Contents → ℕ → ℕ → ℕ → Forest
 moved page id parent at = option_map_or (λ p. put_below parent at p.label p.below (taken_out id page.tree)) (placed_of page id) page.tree
 
+-- the trees with another label for the node `id`, which keeps its place
+abbrev pub relabelled : ℕ → (Label → Label) → Forest → Forest
+relabelled id change End = End
+relabelled id change (Grow n below others) =
+    Grow (if n.id == id then change n else n) (relabelled id change below) (relabelled id change others)
+
+-- the greater of 0 and the lesser of a coordinate and the greatest one (CSSOM View, `scroll()`)
+abbrev pub clamped : ℤ → ℤ → ℤ
+clamped most x = int_max (pos 0) (int_min x most)
+
+-- a scroll clamped between 0 and the greatest one
+abbrev pub clamped_to : Spot → Spot → Spot
+clamped_to max scroll = record { x = clamped max.x scroll.x; y = clamped max.y scroll.y }
+
+-- a node with this anchor, these boxes and this greatest scroll, to which its scroll is clamped
+abbrev pub laid_out : Spot → List Piece → Spot → Label → Label
+laid_out anchor boxes max n = record n { anchor = anchor; boxes = boxes; scroll = clamped_to max n.scroll; max = max }
+
+-- a viewport of these sides and this greatest scroll, to which its scroll is clamped
+abbrev pub resized : ℤ → ℤ → Spot → Viewport → Viewport
+resized w h max v = record { w = w; h = h; scroll = clamped_to max v.scroll; max = max }
+
 -- the page that an edit without a fault leaves
 abbrev pub edited : Contents → Edit → Contents
 edited page (Add parent at kind boxes) = record page {
-  tree = planted parent at (record { id = page.next; kind = kind; boxes = boxes }) End page.tree;
+  tree = planted parent at (new_label page.next kind boxes) End page.tree;
   next = page.next + 1;
 }
 edited page (Remove id) = record page { tree = taken_out id page.tree }
 edited page (Move id parent at) = record page { tree = moved page id parent at }
+edited page (Place id anchor boxes max) = record page { tree = relabelled id (laid_out anchor boxes max) page.tree }
+edited page (Resize w h max) = record page { viewport = resized w h max page.viewport }
 
 -- what it answers then
 abbrev pub answer_of : Contents → Edit → Done
 answer_of page (Add parent at kind boxes) = NodeAdded page.next
 answer_of page (Remove id) = EditDone
 answer_of page (Move id parent at) = EditDone
+answer_of page (Place id anchor boxes max) = EditDone
+answer_of page (Resize w h max) = EditDone
 
 -- the ancestors that a child of `parent` has, from that node on up
 abbrev pub ancestors_below : Contents → ℕ → List Label
 ancestors_below page parent = option_map_or (λ p. p.label ∷ p.above) (placed_of page parent) []
+
+-- the ancestors of a node, from its parent on up
+abbrev pub ancestors_of : Contents → ℕ → List Label
+ancestors_of page id = option_map_or (λ p. p.above) (placed_of page id) []
 
 -- the number of children of `parent`, and 0 for parent 0
 abbrev pub child_count : Contents → ℕ → ℕ
@@ -80,7 +128,8 @@ abbrev pub first_of : List (Bool × EditFault) → Option EditFault
 first_of [] = None
 first_of ((holds, why) ∷ others) = if holds then Some why else first_of others
 
--- the table of faults; a move can't offend the kinds, since every node is a block and a block may hold any block
+-- the table of faults; a move can't offend the kinds, since every node is a block and a block may hold any block, and a
+-- place can't make the page too full, since no node has more than one box
 abbrev pub faults_of : Contents → Edit → List (Bool × EditFault)
 faults_of page (Add parent at kind boxes) =
     (not (parent == 0 || has_id page parent), fault.Absent)
@@ -98,6 +147,11 @@ faults_of page (Move id parent at) =
     ∷ (nat_lt (child_count (page_without page id) parent) at, fault.Place)
     ∷ (nat_lt 256 (length (ancestors_below page parent) + height_of (tree_of page id)), fault.Deep)
     ∷ []
+faults_of page (Place id anchor boxes max) =
+    (not (has_id page id), fault.Absent)
+    ∷ (not (boxes_suit (ancestors_of page id) boxes), fault.Kind)
+    ∷ []
+faults_of page (Resize w h max) = []
 
 -- the first fault of an edit on a page, where it has one
 abbrev pub first_fault : Contents → Edit → Option EditFault

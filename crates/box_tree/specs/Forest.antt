@@ -1,6 +1,7 @@
 -- The tree of nodes as a forest, and what stands where in it.
 use Rattle.std.specs.Prelude.{ℕ, ◌+◌, max, List, [], ◌∷◌, ◌++◌, Option, Some, None, if◌then◌else◌, ◌==◌}
 use Rattle.std.specs.Option.{option_or}
+use Rattle.fractions.specs.declared.rect.Spot.{Spot}
 use Rattle.box_tree.specs.declared.kind.Kind.{Kind}
 use Rattle.box_tree.specs.declared.piece.Piece.{Piece}
 
@@ -8,7 +9,10 @@ use Rattle.box_tree.specs.declared.piece.Piece.{Piece}
 pub record Label : Type 0 where
   pub id : ℕ
   pub kind : Kind
+  pub anchor : Spot
   pub boxes : List Piece
+  pub scroll : Spot
+  pub max : Spot
 
 -- a list of trees: none, or the first as its node and the list of its children, and then the others
 pub data Forest : Type 0 where

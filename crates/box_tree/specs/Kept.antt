@@ -13,7 +13,7 @@ node_with (n ∷ nodes) id = if n.id == id then Some n else node_with nodes id
 
 -- what a node is apart from its place
 abbrev pub label_of : Node → Label
-label_of n = record { id = n.id; kind = n.kind; boxes = n.boxes }
+label_of n = record { id = n.id; kind = n.kind; anchor = n.anchor; boxes = n.boxes; scroll = n.scroll; max = n.max }
 
 -- a node, if it is there, as a tree before the others, where `below` makes the trees of its children
 abbrev pub tree_before : (List ℕ → Forest) → Option Node → Forest → Forest
@@ -51,10 +51,20 @@ pub record IsKept (nodes : List Node) (first : Option ℕ) (page : Contents) : T
   pub root : option_to_list first ≡ roots_of page.tree
   pub count : length nodes ≡ node_count page.tree
 
--- one node, that with the id, has these children now
-pub record GivesChildren (old new : List Node) (id : ℕ) (children : List ℕ) : Type 0 where
+-- one node, that with the id, is changed
+pub record ChangesNode (old new : List Node) (id : ℕ) (change : Node → Node) : Type 0 where
   pub place : ℕ
   pub node : Node
   pub at_place : slice_get old place ≡ Some node
   pub id_is : node.id ≡ id
-  pub new_is : new ≡ slice_set old place (record node { children = children })
+  pub new_is : new ≡ slice_set old place (change node)
+
+-- a node with these children
+abbrev pub with_children : List ℕ → Node → Node
+with_children children n = record n { children = children }
+
+-- a node in the same place with another label
+abbrev pub with_label : (Label → Label) → Node → Node
+with_label change n =
+    let l = change (label_of n) in
+    record n { id = l.id; kind = l.kind; anchor = l.anchor; boxes = l.boxes; scroll = l.scroll; max = l.max }

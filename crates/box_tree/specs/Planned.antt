@@ -1,24 +1,26 @@
 -- What a prepared edit holds, and an edit that was carried out.
-use Rattle.std.specs.Prelude.{◌≡◌, ℕ, ◌+◌, ◌-◌, ◌^◌, ◌<◌, ◌==◌, min, if◌then◌else◌, List, [], Bool, not, None, Some, nat_lt}
+use Rattle.std.specs.Prelude.{◌≡◌, ℕ, ◌+◌, ◌-◌, ◌^◌, ◌<◌, ◌==◌, min, if◌then◌else◌, List, [], Bool, not, None, Some, nat_lt, ℤ}
 use Rattle.std.specs.Option.{option_map, option_map_or}
 use Rattle.std.specs.List.{insert, filter, list_any}
 use Rattle.std.specs.List.Sorted.{IsNonDecreasing}
+use Rattle.fractions.specs.declared.rect.Spot.{Spot}
 use Rattle.box_tree.specs.declared.kind.Kind.{Kind}
 use Rattle.box_tree.specs.declared.piece.Piece.{Piece}
 use Rattle.box_tree.specs.declared.node.Node.{Node}
 use Rattle.box_tree.specs.declared.edit.Edit.{Edit}
-use Rattle.box_tree.specs.declared.edit.Edit.TheVariants.{Add, Remove, Move}
+use Rattle.box_tree.specs.declared.edit.Edit.TheVariants.{Add, Remove, Move, Place, Resize}
 use Rattle.box_tree.specs.declared.plan.Plan.{Plan}
+use Rattle.box_tree.specs.declared.plan.Placement.{Placement}
 use Rattle.box_tree.specs.declared.plan.Relocation.{Relocation}
-use Rattle.box_tree.specs.declared.plan.Plan.TheVariants.{AddNode, RemoveNodes, MoveNodes}
+use Rattle.box_tree.specs.declared.plan.Plan.TheVariants.{AddNode, RemoveNodes, MoveNodes, PlaceNode, ResizeViewport}
 use Rattle.box_tree.specs.Forest.{End, node_count, occurrences}
-use Rattle.box_tree.specs.Contents.{Contents, depth_below, node_at, node_of, tree_of}
+use Rattle.box_tree.specs.Contents.{Contents, depth_below, new_label, node_at, node_of, tree_of}
 use Rattle.box_tree.specs.Edited.{IsInRange, first_fault, ancestors_below}
 use Rattle.box_tree.specs.PageState.{PageState}
 
 -- the node that an add makes
 abbrev pub node_added : Contents → ℕ → Kind → List Piece → Node
-node_added page parent kind boxes = node_at (record { label = record { id = page.next; kind = kind; boxes = boxes }; above = ancestors_below page parent; below = End })
+node_added page parent kind boxes = node_at (record { label = new_label page.next kind boxes; above = ancestors_below page parent; below = End })
 
 -- the children of `parent` with the new node as number `at` of them
 abbrev pub children_with : Contents → ℕ → ℕ → List ℕ
@@ -77,11 +79,26 @@ pub record IsMovePlan (page : Contents) (id parent at : ℕ) (r : Relocation) (s
   pub children_are : children ≡ insert (children_without page parent id) at id
   pub ids_are : AreIdsOfTree page id ids
 
+-- how a node is laid out, and its boxes
+pub record IsPlacePlan (id : ℕ) (anchor : Spot) (boxes : List Piece) (max : Spot) (p : Placement) (own : List Piece) : Type 0 where
+  pub id_is : p.id ≡ id
+  pub anchor_is : p.anchor ≡ anchor
+  pub boxes_are : own ≡ boxes
+  pub max_is : p.max ≡ max
+
+-- the sides of the viewport and its greatest scroll
+pub record IsResizePlan (w h : ℤ) (max : Spot) (w' h' : ℤ) (max' : Spot) : Type 0 where
+  pub width_is : w' ≡ w
+  pub height_is : h' ≡ h
+  pub max_is : max' ≡ max
+
 -- the plan is one for the edit on the page
 abbrev pub IsPlanFor : Plan → Edit → PageState → Type 0
 IsPlanFor (AddNode node siblings) (Add parent at kind boxes) page = IsAddPlan page parent at kind boxes node siblings
 IsPlanFor (RemoveNodes parent siblings gone) (Remove id) page = IsRemovePlan page.contents id parent siblings gone
 IsPlanFor (MoveNodes place siblings children ids) (Move id parent at) page = IsMovePlan page.contents id parent at place siblings children ids
+IsPlanFor (PlaceNode placement own) (Place id anchor boxes max) page = IsPlacePlan id anchor boxes max placement own
+IsPlanFor (ResizeViewport w' h' max') (Resize w h max) page = IsResizePlan w h max w' h' max'
 IsPlanFor plan edit page = ⊥
 
 -- an edit that may be carried out, and its plan

@@ -1,11 +1,16 @@
-ghost use Rattle.std.specs.Prelude.{◌≡◌, ◌↔◌, IsTrue};
+ghost use Rattle.std.specs.Prelude.{◌≡◌, ◌↔◌, ◌≤ℤ◌, ◌^◌, pos, IsTrue};
 ghost use Rattle.box_tree.specs.declared.edit.EditFault.TheVariants.{OutOfMemory};
-ghost use Rattle.box_tree.specs.Edited.{IsInRange, fault_number, fault_name};
+ghost use Rattle.box_tree.specs.Contents.{IsSpotInRange, IsMaxInRange};
+ghost use Rattle.box_tree.specs.Edited.{IsPlaceInRange, IsResizeInRange, IsInRange, fault_number, fault_name};
 
 use crate::kind::Kind;
-use crate::piece::PieceList;
+use crate::piece::{MOST, PieceList, lies_between};
+use fractions::Spot;
 use std::alloc::AllocError;
 use thiserror::Error;
+
+// The greatest side of the viewport, in units.
+const LONGEST: i64 = 1 << 20;
 
 /// A change of the page.
 #[derive(Debug, Drop)]
@@ -27,6 +32,21 @@ pub enum Edit {
         parent: u32,
         at: u32,
     },
+    /// The node gets this anchor, within 2^26 units either way, these boxes, and this greatest scroll, 0 to 2^26 units in
+    /// each coordinate, to which its scroll is clamped.
+    Place {
+        id: u32,
+        anchor: Spot,
+        boxes: PieceList,
+        max: Spot,
+    },
+    /// The viewport gets these sides, 1 to 2^20 units each, and this greatest scroll, 0 to 2^26 units in each coordinate, to
+    /// which its scroll is clamped.
+    Resize {
+        w: i64,
+        h: i64,
+        max: Spot,
+    },
 }
 
 impl Edit {
@@ -35,10 +55,52 @@ impl Edit {
         ensures { IsTrue result ↔ IsInRange self.now }
     {
         match self {
-            Edit::Add { boxes, .. } => boxes.0.iter().all(|piece| piece.in_range()),
+            Edit::Add { boxes, .. } => boxes.in_range(),
             Edit::Remove { .. } | Edit::Move { .. } => true,
+            Edit::Place {
+                anchor,
+                boxes,
+                max,
+                ..
+            } => is_place_in_range(*anchor, boxes, *max),
+            Edit::Resize { w, h, max } => is_resize_in_range(*w, *h, *max),
         }
     }
+}
+
+// Whether the numbers of a place are within their limits.
+fn is_place_in_range(anchor: Spot, boxes: &PieceList, max: Spot) -> bool
+    ensures { IsTrue result ↔ IsPlaceInRange anchor boxes.now max }
+{
+    is_spot_in_range(anchor) && boxes.in_range() && is_max_in_range(max)
+}
+
+// Whether the numbers of a resize are within their limits.
+fn is_resize_in_range(w: i64, h: i64, max: Spot) -> bool
+    ensures { IsTrue result ↔ IsResizeInRange w h max }
+{
+    is_viewport_side(w) && (is_viewport_side(h) && is_max_in_range(max))
+}
+
+// Whether a side of the viewport is within the limits.
+fn is_viewport_side(side: i64) -> bool
+    ensures { IsTrue result ↔ ((pos 1 ≤ℤ side) × (side ≤ℤ pos (2 ^ 20))) }
+{
+    lies_between(1, side, LONGEST)
+}
+
+// Whether a point is within the limits.
+fn is_spot_in_range(spot: Spot) -> bool
+    ensures { IsTrue result ↔ IsSpotInRange spot }
+{
+    lies_between(-MOST, spot.x, MOST) && lies_between(-MOST, spot.y, MOST)
+}
+
+// Whether a greatest scroll is within the limits.
+fn is_max_in_range(max: Spot) -> bool
+    ensures { IsTrue result ↔ IsMaxInRange max }
+{
+    lies_between(0, max.x, MOST) && lies_between(0, max.y, MOST)
 }
 
 /// What an accepted edit answers.

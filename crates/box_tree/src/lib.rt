@@ -11,6 +11,7 @@ mod node;
 mod page;
 mod piece;
 mod plan;
+mod scroll;
 mod viewport;
 
 pub use edit::{Done, Edit, EditFault};

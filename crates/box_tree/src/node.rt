@@ -5,6 +5,7 @@ ghost use Rattle.box_tree.specs.Planned.{ids_without, is_among};
 
 use crate::kind::Kind;
 use crate::piece::Piece;
+use fractions::Spot;
 use smallvec::SmallVec;
 use std::alloc::{AllocError, Global};
 use std::marker::Model;
@@ -92,6 +93,9 @@ impl Boxes {
     }
 }
 
+// The point 0, 0.
+pub(crate) const ORIGIN: Spot = Spot { x: 0, y: 0 };
+
 /// A node of the page as its reader sees it.
 #[derive(Drop)]
 pub struct Node {
@@ -103,5 +107,11 @@ pub struct Node {
     pub children: IdList,
     /// The number of nodes from the root to this one, 1 for the root and at most 256.
     pub depth: u32,
+    /// Where the layout puts it, added to its space: within 2^26 units.
+    pub anchor: Spot,
     pub boxes: Boxes,
+    /// How far it is scrolled, each coordinate from 0 to that of `max`.
+    pub scroll: Spot,
+    /// The greatest scroll, 0 to 2^26 units.
+    pub max: Spot,
 }

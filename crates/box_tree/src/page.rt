@@ -6,17 +6,19 @@ ghost use Rattle.box_tree.specs.Forest.{roots_of, node_count};
 ghost use Rattle.box_tree.specs.Kept.{node_with, IsRisingFrom};
 
 use crate::edit::{Done, Edit, EditFault};
-use crate::node::Node;
-use crate::plan::{Plan, Prepared, Undo};
+use crate::node::{Node, ORIGIN};
+use crate::plan::{Placement, Plan, Prepared, Undo};
 use crate::viewport::Viewport;
-use fractions::{Ledger, Spot, Steps};
+use fractions::{Ledger, Steps};
 use std::alloc::Global;
 use std::marker::Model;
 use std::snapshot::Snapshot;
 
 mod adds;
 mod moves;
+mod places;
 mod removes;
+mod resizes;
 
 /// A page: a tree of nodes or none, seen through a viewport.
 #[derive(Drop)]
@@ -53,15 +55,14 @@ impl Page {
         requires height { (pos 1 ≤ℤ h) × (h ≤ℤ pos (2 ^ 20)) }
         ensures { result.contents ≡ empty_page w h }
     {
-        let origin = Spot { x: 0, y: 0 };
         Page {
             nodes: Vec::new(alloc),
             root: None,
             viewport: Viewport {
                 w,
                 h,
-                scroll: origin,
-                max: origin,
+                scroll: ORIGIN,
+                max: ORIGIN,
             },
             next: 1,
         }
@@ -134,6 +135,20 @@ impl Page {
             } => self.plan_add(*parent, *at, *kind, boxes)?,
             Edit::Remove { id } => self.plan_remove(*id)?,
             Edit::Move { id, parent, at } => self.plan_move(*id, *parent, *at)?,
+            Edit::Place {
+                id,
+                anchor,
+                boxes,
+                max,
+            } => {
+                let placement = Placement {
+                    id: *id,
+                    anchor: *anchor,
+                    max: *max,
+                };
+                self.plan_place(placement, boxes)?
+            }
+            Edit::Resize { w, h, max } => self.plan_resize(*w, *h, *max),
         };
         Ok(Prepared {
             plan,
@@ -170,6 +185,8 @@ impl Page {
                 children,
                 ids,
             } => self.relocate(place, siblings, children, ids, &edit),
+            Plan::PlaceNode { placement, boxes } => self.place(placement, boxes, &edit),
+            Plan::ResizeViewport { w, h, max } => self.resize(w, h, max, &edit),
         };
         Undo {
             done,

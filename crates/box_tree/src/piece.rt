@@ -1,4 +1,4 @@
-ghost use Rattle.std.specs.Prelude.{◌↔◌, ◌≤ℤ◌, IsTrue};
+ghost use Rattle.std.specs.Prelude.{◌↔◌, ◌≤ℤ◌, All, IsTrue};
 ghost use Rattle.box_tree.specs.Contents.{IsBoxInRange, IsSpanInRange};
 
 use std::marker::Model;
@@ -19,7 +19,7 @@ pub struct Piece {
 }
 
 // The greatest size of a coordinate, in units.
-const MOST: i64 = 1 << 26;
+pub(crate) const MOST: i64 = 1 << 26;
 
 impl Piece {
     /// Whether its numbers and its right and bottom edges are within 2^26 units, and its sides not below 0.
@@ -44,7 +44,7 @@ fn is_span_in_range(from: i64, side: i64) -> bool
 }
 
 // Whether a number is at least the one and at most the other.
-fn lies_between(least: i64, x: i64, most: i64) -> bool
+pub(crate) fn lies_between(least: i64, x: i64, most: i64) -> bool
     ensures { IsTrue result ↔ ((least ≤ℤ x) × (x ≤ℤ most)) }
 {
     least <= x && x <= most
@@ -61,4 +61,13 @@ impl Model for PieceList {
     ghost Value = { List Piece };
 
     ghost view = { λ list. list.0.items };
+}
+
+impl PieceList {
+    // Whether each box is within the limits.
+    pub(crate) fn in_range(&self) -> bool
+        ensures { IsTrue result ↔ All IsBoxInRange self.now }
+    {
+        self.0.iter().all(|piece| piece.in_range())
+    }
 }

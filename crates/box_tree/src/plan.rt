@@ -1,8 +1,18 @@
 use crate::edit::{Done, Edit};
-use crate::node::{IdList, Node};
+use crate::node::{Boxes, IdList, Node};
 use crate::page::Page;
+use fractions::Spot;
 use std::marker::Model;
 use std::snapshot::Snapshot;
+
+/// How a node is laid out, beside its boxes.
+#[derive(Clone, Copy)]
+pub(crate) struct Placement {
+    pub(crate) id: u32,
+    pub(crate) anchor: Spot,
+    /// The greatest scroll.
+    pub(crate) max: Spot,
+}
 
 /// Where a moved node goes.
 #[derive(Clone, Copy)]
@@ -39,6 +49,17 @@ pub(crate) enum Plan {
         siblings: IdList,
         children: IdList,
         ids: IdList,
+    },
+    /// How the node is laid out, and its boxes.
+    PlaceNode {
+        placement: Placement,
+        boxes: Boxes,
+    },
+    /// The sides of the viewport and its greatest scroll.
+    ResizeViewport {
+        w: i64,
+        h: i64,
+        max: Spot,
     },
 }
 

@@ -13,8 +13,8 @@ use Rattle.box_tree.specs.Contents.{Contents, placed_of, has_box, IsValid, tree_
 use Rattle.box_tree.proofs.ForestLemmas.{placed_in-head}
 use Rattle.box_tree.proofs.PlacedLemmas.{AreAtPlaces, page-at_places}
 use Rattle.point_query.specs.declared.elements.Local.{Local}
-use Rattle.point_query.specs.Elements.{space, local_point, box_holds, admits, layer, each_once, then_root, is_inside, elements_with, elements_from_point}
-use Rattle.point_query.specs.Walk.{fine_point, from_corner, own_at, admitted_in, ancestor_count}
+use Rattle.point_query.specs.Elements.{placed_from, space, local_point, box_holds, admits, layer, each_once, then_root, is_inside, elements_with, elements_from_point}
+use Rattle.point_query.specs.Walk.{fine_point, from_start, within, own_at, admitted_in, ancestor_count}
 
 -- a filter of a list from its end
 filter-reverse : {A : Type 0} (p : A → Bool) (xs : List A) → filter p (reverse xs) ≡ reverse (filter p xs)
@@ -80,22 +80,25 @@ times_in-items (Grow n below others) id = rw (items_in-cons n below others, time
     own false = omega arith
 
 module _ (page : Contents) (x y : ℤ) where
-  -- a point of the viewport is this one in the space of nodes with these ancestors
+  -- a point of the viewport is this one counted from where nodes with these ancestors are placed
   pub record IsLocalAt (above : List Label) (at : Local) : Type 0 where
-    pub across : at.x ≡ x -ℤ (space page.viewport above).x
-    pub down : at.y ≡ y -ℤ (space page.viewport above).y
+    pub across : at.x ≡ x -ℤ (placed_from page.viewport above).x
+    pub down : at.y ≡ y -ℤ (placed_from page.viewport above).y
 
-  fine-at : (above : List Label) (at : Local) → IsLocalAt above at → fine_point at ≡ local_point (space page.viewport above) x y
-  fine-at above at is = rw (is.across, is.down) refl
+  fine-at : (n : Label) (above : List Label) (at : Local) → IsLocalAt above at → fine_point (from_start n.anchor at) ≡ local_point (space page.viewport above n) x y
+  fine-at n above at is =
+      let across : at.x -ℤ n.anchor.x ≡ x -ℤ (space page.viewport above n).x = omega (arith, ints, is.across) in
+      let down : at.y -ℤ n.anchor.y ≡ y -ℤ (space page.viewport above n).y = omega (arith, ints, is.down) in
+      rw (across, down) refl
 
-  local-below : (n : Label) (above : List Label) (at : Local) → IsLocalAt above at → IsLocalAt (n ∷ above) (from_corner at n.boxes)
+  local-below : (n : Label) (above : List Label) (at : Local) → IsLocalAt above at → IsLocalAt (n ∷ above) (within n.anchor n.boxes at)
   local-below n above at is = record { across = omega (arith, ints, is.across); down = omega (arith, ints, is.down) }
 
   -- the node itself
   own-admitted : (n : Label) (below : Forest) (above : List Label) (at : Local) → IsLocalAt above at → placed_of page n.id ≡ Some (record { label = n; above = above; below = below }) → own_at at n ≡ filter (admits page x y) (map (λ n'. n'.id) (filter has_box (n ∷ [])))
-  own-admitted n below above at is found = by_boxes n.boxes (ap (λ (o : Option Placed). option_map_or (λ p. box_holds p.label.boxes (local_point (space page.viewport p.above) x y)) o false) found ∙ ap (box_holds n.boxes) (sym (fine-at above at is)))
+  own-admitted n below above at is found = by_boxes n.boxes (ap (λ (o : Option Placed). option_map_or (λ p. box_holds p.label.boxes (local_point (space page.viewport p.above p.label) x y)) o false) found ∙ ap (box_holds n.boxes) (sym (fine-at n above at is)))
     where
-      by_boxes : (boxes : List Piece) → admits page x y n.id ≡ box_holds boxes (fine_point at) → (if box_holds boxes (fine_point at) then n.id ∷ [] else []) ≡ filter (admits page x y) (map {A = Label} (λ n'. n'.id) (cond (not (length boxes == 0)) (n ∷ []) []))
+      by_boxes : (boxes : List Piece) → admits page x y n.id ≡ box_holds boxes (fine_point (from_start n.anchor at)) → (if box_holds boxes (fine_point (from_start n.anchor at)) then n.id ∷ [] else []) ≡ filter (admits page x y) (map {A = Label} (λ n'. n'.id) (cond (not (length boxes == 0)) (n ∷ []) []))
       by_boxes [] known = refl
       by_boxes (box ∷ boxes) known =
           let filled : not (suc (length boxes) == 0) ≡ true = grind (arith, nat_tests) in
@@ -105,8 +108,8 @@ module _ (page : Contents) (x y : ℤ) where
   pub admitted-items : (f : Forest) (above : List Label) (at : Local) → AreAtPlaces page above f → IsLocalAt above at → admitted_in at f ≡ filter (admits page x y) (items_in f)
   admitted-items End above at places is = refl
   admitted-items (Grow n below others) above at places is =
-      ap (λ xs. xs ++ (admitted_in (from_corner at n.boxes) below ++ admitted_in at others)) (own-admitted n below above at is places.0)
-      ∙ ap (λ xs. filter (admits page x y) (map (λ n'. n'.id) (filter has_box (n ∷ []))) ++ (xs ++ admitted_in at others)) (admitted-items below (n ∷ above) (from_corner at n.boxes) places.1.0 (local-below n above at is))
+      ap (λ xs. xs ++ (admitted_in (within n.anchor n.boxes at) below ++ admitted_in at others)) (own-admitted n below above at is places.0)
+      ∙ ap (λ xs. filter (admits page x y) (map (λ n'. n'.id) (filter has_box (n ∷ []))) ++ (xs ++ admitted_in at others)) (admitted-items below (n ∷ above) (within n.anchor n.boxes at) places.1.0 (local-below n above at is))
       ∙ ap (λ xs. filter (admits page x y) (map (λ n'. n'.id) (filter has_box (n ∷ []))) ++ (filter (admits page x y) (items_in below) ++ xs)) (admitted-items others above at places.1.1 is)
       ∙ sym (ap (filter (admits page x y)) (items_in-cons n below others)
       ∙ filter-append (admits page x y) (map (λ n'. n'.id) (filter has_box (n ∷ []))) (items_in below ++ items_in others)

@@ -2,6 +2,7 @@
 use Rattle.std.proofs.Common.{◌≡◌, ℕ, ◌+◌, ◌<◌, ◌≤◌, List, [], ◌∷◌, ◌++◌, length, get_or, Option, Some, IsTrue, is_some, sym, ap, ◌∙◌, subst, arith, append_assoc}
 use Rattle.std.proofs.lemmas.List.{append-nil}
 use Rattle.std.specs.Option.{option_map_or}
+use Rattle.fractions.specs.declared.rect.Spot.{Spot}
 use Rattle.box_tree.specs.declared.piece.Piece.{Piece}
 use Rattle.box_tree.specs.declared.node.Node.{Node}
 use Rattle.box_tree.specs.Forest.{Label, Forest, End, Grow, roots_of, Placed}
@@ -11,13 +12,13 @@ use Rattle.box_tree.proofs.PlanLemmas.{id-placed_in}
 use Rattle.point_query.specs.declared.elements.Local.{Local}
 use Rattle.std.specs.Prelude.{if◌then◌else◌}
 use Rattle.point_query.specs.Elements.{box_holds}
-use Rattle.point_query.specs.Walk.{fine_point, from_corner, own_at, admitted_in, below_of, ancestor_count, IsNear}
+use Rattle.point_query.specs.Walk.{fine_point, from_start, within, own_at, admitted_in, below_of, ancestor_count, IsNear}
 
 -- what is admitted of the first tree comes before what is admitted of the others
 pub admitted_in-cons : (at : Local) (n : Label) (below others : Forest) → admitted_in at (Grow n below others) ≡ admitted_in at (Grow n below End) ++ admitted_in at others
-admitted_in-cons at n below others = rw (append-nil (admitted_in (from_corner at n.boxes) below)) (sym (append_assoc (own_at at n) (admitted_in (from_corner at n.boxes) below) (admitted_in at others)))
+admitted_in-cons at n below others = rw (append-nil (admitted_in (within n.anchor n.boxes at) below)) (sym (append_assoc (own_at at n) (admitted_in (within n.anchor n.boxes at) below) (admitted_in at others)))
 
--- a point that is near for some ancestors is near for more
+-- a point that some numbers may bring so far may be brought so far by more
 pub near-more : (n m : ℕ) (at : Local) → n ≤ m → IsNear n at → IsNear m at
 near-more n m at more near = record { across = omega (arith, near.across); down = omega (arith, near.down) }
 
@@ -46,15 +47,19 @@ module _ (page : Contents) (valid : IsValid page) (id : ℕ) (node : Node) (seen
   pub boxes_is : node.boxes ≡ place.label.boxes
   boxes_is = ap (λ (n : Node). n.boxes) (sym at_place.node_is)
 
+  pub anchor_is : node.anchor ≡ place.label.anchor
+  anchor_is = ap (λ (n : Node). n.anchor) (sym at_place.node_is)
+
   pub id_is : place.label.id ≡ id
   id_is = id-placed_in page.tree [] id place at_place.found
 
   -- the walk has the node itself first, and then all below it
-  pub walk-start : (at : Local) → own_at at place.label ++ admitted_in (from_corner at node.boxes) (below_of page id) ≡ admitted_in at (tree_of page id)
+  pub walk-start : (at : Local) → own_at at place.label ++ admitted_in (within node.anchor node.boxes at) (below_of page id) ≡ admitted_in at (tree_of page id)
   walk-start at =
-      ap (λ (f : Forest). own_at at place.label ++ admitted_in (from_corner at node.boxes) f) below_of-seen
-      ∙ ap (λ (boxes : List Piece). own_at at place.label ++ admitted_in (from_corner at boxes) place.below) boxes_is
-      ∙ ap (λ xs. own_at at place.label ++ xs) (sym (append-nil (admitted_in (from_corner at place.label.boxes) place.below)))
+      ap (λ (f : Forest). own_at at place.label ++ admitted_in (within node.anchor node.boxes at) f) below_of-seen
+      ∙ ap (λ (boxes : List Piece). own_at at place.label ++ admitted_in (within node.anchor boxes at) place.below) boxes_is
+      ∙ ap (λ (anchor : Spot). own_at at place.label ++ admitted_in (within anchor place.label.boxes at) place.below) anchor_is
+      ∙ ap (λ xs. own_at at place.label ++ xs) (sym (append-nil (admitted_in (within place.label.anchor place.label.boxes at) place.below)))
       ∙ sym (ap (admitted_in at) tree_of-seen)
 
   module _ (k child d : ℕ) (within : k < length node.children) (is : get_or node.children k d ≡ child) where
@@ -80,7 +85,8 @@ module _ (page : Contents) (valid : IsValid page) (id : ℕ) (node : Node) (seen
   walk-end at k all = rw below_of-seen (ap (admitted_in at) (trees_from-all place.below k (subst (λ (ids : List ℕ). length ids ≤ k) children_is all)))
 
   -- the id, where the node's own box holds the point
-  pub own_at-seen : (at : Local) → own_at at place.label ≡ (if box_holds node.boxes (fine_point at) then id ∷ [] else [])
+  pub own_at-seen : (at : Local) → own_at at place.label ≡ (if box_holds node.boxes (fine_point (from_start node.anchor at)) then id ∷ [] else [])
   own_at-seen at =
-      ap (λ (boxes : List Piece). if box_holds boxes (fine_point at) then place.label.id ∷ [] else []) (sym boxes_is)
-      ∙ ap (λ own. if box_holds node.boxes (fine_point at) then own ∷ [] else []) id_is
+      ap (λ (boxes : List Piece). if box_holds boxes (fine_point (from_start place.label.anchor at)) then place.label.id ∷ [] else []) (sym boxes_is)
+      ∙ ap (λ (anchor : Spot). if box_holds node.boxes (fine_point (from_start anchor at)) then place.label.id ∷ [] else []) (sym anchor_is)
+      ∙ ap (λ own. if box_holds node.boxes (fine_point (from_start node.anchor at)) then own ∷ [] else []) id_is

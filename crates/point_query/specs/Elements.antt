@@ -13,14 +13,19 @@ abbrev pub padding_corner : List Piece → Spot
 padding_corner [] = record { x = pos 0; y = pos 0 }
 padding_corner (box ∷ boxes) = record { x = box.l; y = box.t }
 
--- where the coordinates of a node begin in the viewport: the corners of its containing blocks, added up, from where the
--- scrolled viewport has its origin
-abbrev pub space : Viewport → List Label → Spot
-space viewport [] = record { x = neg_ℤ viewport.scroll.x; y = neg_ℤ viewport.scroll.y }
-space viewport (holder ∷ holders) =
-    let outer = space viewport holders in
-    let corner = padding_corner holder.boxes in
-    record { x = outer.x +ℤ corner.x; y = outer.y +ℤ corner.y }
+-- a point moved by another
+abbrev pub moved_by : Spot → Spot → Spot
+moved_by by at = record { x = at.x +ℤ by.x; y = at.y +ℤ by.y }
+
+-- the point of the viewport from which a node is placed that has these containing blocks, nearest first: the padding corner
+-- of the containing block in its space, and without one the origin of the scrolled viewport
+abbrev pub placed_from : Viewport → List Label → Spot
+placed_from viewport [] = record { x = neg_ℤ viewport.scroll.x; y = neg_ℤ viewport.scroll.y }
+placed_from viewport (holder ∷ holders) = moved_by (padding_corner holder.boxes) (moved_by holder.anchor (placed_from viewport holders))
+
+-- where the space of a node begins in the viewport: the point from which it is placed, moved by its own anchor
+abbrev pub space : Viewport → List Label → Label → Spot
+space viewport holders n = moved_by n.anchor (placed_from viewport holders)
 
 -- a point in fine units (1/64 of a unit)
 pub record FinePoint : Type 0 where
@@ -42,7 +47,7 @@ box_holds (box ∷ boxes) at = span_holds box.l box.w at.x && span_holds box.t b
 
 -- whether the item of a node is admitted at a point of the viewport
 abbrev pub admits : Contents → ℤ → ℤ → ℕ → Bool
-admits page x y id = option_map_or (λ p. box_holds p.label.boxes (local_point (space page.viewport (containing_block_chain p.above)) x y)) (placed_of page id) false
+admits page x y id = option_map_or (λ p. box_holds p.label.boxes (local_point (space page.viewport (containing_block_chain p.above) p.label) x y)) (placed_of page id) false
 
 -- the painting walk from the root, from bottom to top: blocks in tree order (CSS 2.2, Appendix E)
 abbrev pub layer : Contents → List ℕ

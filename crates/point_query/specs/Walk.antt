@@ -1,6 +1,7 @@
 -- What a walk over the trees admits at a point, as it goes down with the point in the space of the trees.
 use Rattle.std.specs.Prelude.{ℕ, ◌+◌, ◌*◌, ◌≤◌, ◌^◌, List, [], ◌∷◌, ◌++◌, length, if◌then◌else◌, pos, ◌-ℤ◌, ◌*ℤ◌, unsigned_abs}
 use Rattle.std.specs.Option.{option_map_or}
+use Rattle.fractions.specs.declared.rect.Spot.{Spot}
 use Rattle.box_tree.specs.declared.piece.Piece.{Piece}
 use Rattle.box_tree.specs.Forest.{Label, Forest, End, Grow}
 use Rattle.box_tree.specs.Contents.{Contents, placed_of}
@@ -11,18 +12,22 @@ use Rattle.point_query.specs.Elements.{FinePoint, padding_corner, box_holds}
 abbrev pub fine_point : Local → FinePoint
 fine_point at = record { x = pos 64 *ℤ at.x; y = pos 64 *ℤ at.y }
 
--- a point of a space in the space that a node gives its children
-abbrev pub from_corner : Local → List Piece → Local
-from_corner at boxes = record { x = at.x -ℤ (padding_corner boxes).x; y = at.y -ℤ (padding_corner boxes).y }
+-- a point counted from another one
+abbrev pub from_start : Spot → Local → Local
+from_start start at = record { x = at.x -ℤ start.x; y = at.y -ℤ start.y }
+
+-- a point in the space of a node, and then counted from where its children are placed
+abbrev pub within : Spot → List Piece → Local → Local
+within anchor boxes at = from_start (padding_corner boxes) (from_start anchor at)
 
 -- the node itself, where its box holds the point
 abbrev pub own_at : Local → Label → List ℕ
-own_at at n = if box_holds n.boxes (fine_point at) then n.id ∷ [] else []
+own_at at n = if box_holds n.boxes (fine_point (from_start n.anchor at)) then n.id ∷ [] else []
 
--- what is admitted of trees, from bottom to top
+-- what is admitted of trees, from bottom to top, at a point counted from where they are placed
 abbrev pub admitted_in : Local → Forest → List ℕ
 admitted_in at End = []
-admitted_in at (Grow n below others) = own_at at n ++ (admitted_in (from_corner at n.boxes) below ++ admitted_in at others)
+admitted_in at (Grow n below others) = own_at at n ++ (admitted_in (within n.anchor n.boxes at) below ++ admitted_in at others)
 
 -- the trees below a node
 abbrev pub below_of : Contents → ℕ → Forest
@@ -32,7 +37,7 @@ below_of page id = option_map_or (λ p. p.below) (placed_of page id) End
 abbrev pub ancestor_count : Contents → ℕ → ℕ
 ancestor_count page id = option_map_or (λ p. length p.above) (placed_of page id) 0
 
--- a point as far from the corner as that many boxes may bring it
-pub record IsNear (ancestors : ℕ) (at : Local) : Type 0 where
-  pub across : unsigned_abs at.x ≤ 2 ^ 64 * (1 + ancestors)
-  pub down : unsigned_abs at.y ≤ 2 ^ 64 * (1 + ancestors)
+-- a point as far away as that many numbers of 64 bits may bring it
+pub record IsNear (numbers : ℕ) (at : Local) : Type 0 where
+  pub across : unsigned_abs at.x ≤ 2 ^ 63 * (2 + numbers)
+  pub down : unsigned_abs at.y ≤ 2 ^ 63 * (2 + numbers)

@@ -1,15 +1,15 @@
-ghost use Rattle.std.specs.Prelude.{◌≡◌, ◌↔◌, ◌⊎◌, false, IsNone, ℕ, ◌+◌, ◌++◌, ◌∷◌, [], ◌&&◌, ◌+ℤ◌, ◌*ℤ◌, pos, int_le, if◌then◌else◌, IsTrue, IfOk};
+ghost use Rattle.std.specs.Prelude.{◌≡◌, ◌↔◌, ◌⊎◌, false, IsNone, ℕ, ◌+◌, ◌*◌, ◌++◌, ◌∷◌, [], ◌&&◌, ◌+ℤ◌, ◌*ℤ◌, pos, int_le, if◌then◌else◌, IsTrue, IfOk};
 ghost use Rattle.box_tree.specs.Contents.{IsWithin, IsValid, has_id, tree_of};
 ghost use Rattle.box_tree.specs.Forest.{roots_of};
-ghost use Rattle.point_query.specs.Elements.{elements_from_point, element_from_point, is_inside, span_holds, box_holds, then_root, ends_with};
-ghost use Rattle.point_query.specs.Walk.{fine_point, from_corner, admitted_in, ancestor_count, IsNear};
+ghost use Rattle.point_query.specs.Elements.{elements_from_point, element_from_point, is_inside, padding_corner, span_holds, box_holds, then_root, ends_with};
+ghost use Rattle.point_query.specs.Walk.{fine_point, from_start, admitted_in, ancestor_count, IsNear};
 
 use box_tree::{Page, Piece, Viewport};
-use fractions::{Ledger, Steps};
+use fractions::{Ledger, Spot, Steps};
 use std::alloc::Global;
 use tree_edits::{Engine, OutOfMemory};
 
-// A point in units, in the space of a node.
+// A point in units, counted from one that the walk names.
 #[derive(Clone, Copy)]
 struct Local {
     x: i128,
@@ -79,7 +79,7 @@ fn lies_between(least: i64, x: i64, most: i64) -> bool
     least <= x && x <= most
 }
 
-// A point of the viewport in the space of the root.
+// A point of the viewport, counted from where the root is placed.
 fn from_scroll(viewport: &Viewport, x: i64, y: i64) -> Local
     ensures across { result.x ≡ x +ℤ viewport.now.scroll.x }
     ensures down { result.y ≡ y +ℤ viewport.now.scroll.y }
@@ -91,7 +91,7 @@ fn from_scroll(viewport: &Viewport, x: i64, y: i64) -> Local
     }
 }
 
-// Appends what is admitted of a node and all below it, in tree order, at a point of the node's space.
+// Appends what is admitted of a node and all below it, in tree order, at a point counted from where the node is placed.
 fn admit<L: Ledger>(
     page: &Page,
     id: u32,
@@ -101,13 +101,14 @@ fn admit<L: Ledger>(
 ) -> Result<(), OutOfMemory>
     requires valid { IsValid page.now.contents }
     requires there { IsTrue (has_id page.now.contents id) }
-    requires near { IsNear (ancestor_count page.now.contents id) at }
+    requires near { IsNear (2 * ancestor_count page.now.contents id) at }
     ensures { IfOk result (λ _. ids.new.items ≡ ids.old.items ++ admitted_in at (tree_of page.now.contents id)) }
 {
     let node = page.node(id, steps);
     let boxes = node.boxes.as_slice();
-    push_if(ids, id, holds(boxes, at))?;
-    let inner = inside(boxes, at);
+    let own = counted_from(at, node.anchor);
+    push_if(ids, id, holds(boxes, own))?;
+    let inner = counted_from(own, corner(boxes));
     for child in node.children.as_slice() {
         admit(page, *child, inner, ids, steps)?;
     }
@@ -142,18 +143,28 @@ fn holds_from(from: i64, side: i64, at: i128) -> bool
     from <= at && at < from + i128::from(side)
 }
 
-// A point of the space of a node in the space of its children.
-fn inside(boxes: &[Piece], at: Local) -> Local
-    requires { IsNear 255 at }
-    ensures moved { result ≡ from_corner at boxes.now }
+// A point counted from another one.
+fn counted_from(at: Local, start: Spot) -> Local
+    requires { IsNear 511 at }
+    ensures counted { result ≡ from_start start at }
     ensures near { (n : ℕ) → IsNear n at → IsNear (1 + n) result }
 {
+    Local {
+        x: at.x - i128::from(start.x),
+        y: at.y - i128::from(start.y),
+    }
+}
+
+// The corner of the first of some boxes, and the point 0, 0 where there is none.
+fn corner(boxes: &[Piece]) -> Spot
+    ensures { result ≡ padding_corner boxes.now }
+{
     match boxes.first() {
-        Some(piece) => Local {
-            x: at.x - i128::from(piece.l),
-            y: at.y - i128::from(piece.t),
+        Some(piece) => Spot {
+            x: piece.l,
+            y: piece.t,
         },
-        None => at,
+        None => Spot { x: 0, y: 0 },
     }
 }
 

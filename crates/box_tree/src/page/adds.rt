@@ -6,14 +6,14 @@ ghost use Rattle.box_tree.specs.declared.edit.Edit.TheVariants.{Add};
 ghost use Rattle.box_tree.specs.Contents.{has_id, IsBoxInRange};
 ghost use Rattle.box_tree.specs.Edited.{first_fault, edited, answer_of, child_count, ancestors_below};
 ghost use Rattle.box_tree.specs.Forest.{node_count};
-ghost use Rattle.box_tree.specs.Kept.{node_with, IsRisingFrom, GivesChildren};
+ghost use Rattle.box_tree.specs.Kept.{node_with, with_children, IsRisingFrom, ChangesNode};
 ghost use Rattle.box_tree.specs.Planned.{IsPlanned};
 ghost use Rattle.box_tree.specs.declared.plan.Plan.TheVariants.{AddNode};
 
 use super::{Page, place_of};
 use crate::edit::{Done, Edit, EditFault};
 use crate::kind::Kind;
-use crate::node::{Boxes, IdList, Node};
+use crate::node::{Boxes, IdList, Node, ORIGIN};
 use crate::piece::PieceList;
 use crate::plan::Plan;
 use smallvec::SmallVec;
@@ -111,7 +111,10 @@ impl Page {
             parent,
             children: IdList(Vec::new(alloc)),
             depth,
+            anchor: ORIGIN,
             boxes: Boxes::from_pieces(alloc, &boxes.0)?,
+            scroll: ORIGIN,
+            max: ORIGIN,
         };
         Ok(Plan::AddNode { node, siblings })
     }
@@ -191,7 +194,7 @@ fn siblings_with(
 pub(super) fn give_children(nodes: &mut Vec<Node>, id: u32, children: IdList)
     requires rising { IsRisingFrom 0 nodes.old.items }
     requires there { IsSome (node_with nodes.old.items id) }
-    ensures given { GivesChildren nodes.old.items nodes.new.items id children }
+    ensures given { ChangesNode nodes.old.items nodes.new.items id (with_children children) }
     ensures capacity { vec_capacity nodes.new ≡ vec_capacity nodes.old }
 {
     match place_of(nodes, id) {
@@ -204,7 +207,7 @@ pub(super) fn give_children(nodes: &mut Vec<Node>, id: u32, children: IdList)
 }
 
 // Whether so many boxes suit the root, or another block.
-fn box_count_suits(is_root: bool, count: usize) -> bool
+pub(super) fn box_count_suits(is_root: bool, count: usize) -> bool
     ensures { result ≡ (if is_root then count == 1 else nat_le count 1) }
 {
     if is_root { count == 1 } else { count <= 1 }
