@@ -43,6 +43,7 @@ scripted_then line others ys (Some first) split = rw (split first.rest) (by_midd
     by_rest : (text : List ℕ) (more : Option Scripted) → text_before first.text (text_before text more) ≡ text_before (first.text ++ text) more
     by_rest text None = refl
     by_rest text (Some more) = rw (append_assoc first.text text more.text) refl
+
     by_middle : (middle : Option Scripted) → text_before first.text (option_and_then (λ made. text_before made.text (scripted_lines ys made.rest)) middle) ≡ option_and_then (λ made. text_before made.text (scripted_lines ys made.rest)) (text_before first.text middle)
     by_middle None = refl
     by_middle (Some middle) = by_rest middle.text (scripted_lines ys middle.rest)

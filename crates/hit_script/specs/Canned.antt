@@ -1,5 +1,5 @@
 -- What a canned desk tells.
-use Rattle.std.specs.Prelude.{ℕ, List, [], ◌∷◌, Option, Some, None, Ok, map, take, nat_le, if◌then◌else◌}
+use Rattle.std.specs.Prelude.{ℕ, ◌+◌, max, List, [], ◌∷◌, Option, Some, None, Ok, map, take, nat_le, nat_lt, slice_set, if◌then◌else◌}
 use Rattle.box_tree.specs.declared.edit.Done.TheVariants.{Done}
 use Rattle.hit_script.specs.Log.{Entry, EditEntry, HitEntry, TopEntry}
 use Rattle.hit_script.specs.declared.canned.Asked.{Asked}
@@ -15,3 +15,10 @@ canned_entry member (asked.Top x y) = TopEntry x y (Some member)
 -- its log, which is told where there were at most 64 calls
 abbrev pub canned_log : Canned → Option (List Entry)
 canned_log desk = if nat_le desk.count 64 then Some (map (canned_entry desk.member) (take desk.count desk.asked)) else None
+
+-- the desk behind one more call: the first 64 are kept, and calls are counted up to 65
+abbrev pub asked_once_more : Canned → Asked → Canned
+asked_once_more desk what = record desk {
+  count = if nat_lt desk.count 64 then desk.count + 1 else max desk.count 65;
+  asked = if nat_lt desk.count 64 then slice_set desk.asked desk.count what else desk.asked;
+}

@@ -1,7 +1,7 @@
 // A desk with the same answers to all, for tests of what stands above a desk.
-ghost use Rattle.std.specs.Prelude.{◌≡◌, ◌≤◌, ◌+◌, nat_le, min, map, take, if◌then◌else◌, Some, None};
+ghost use Rattle.std.specs.Prelude.{◌≡◌, ◌∷◌, [], Some, None, Ok, IfOk, OnOk, OnErr};
 ghost use Rattle.hit_script.specs.Log.{Logs};
-ghost use Rattle.hit_script.specs.Canned.{canned_entry, canned_log};
+ghost use Rattle.hit_script.specs.Canned.{canned_entry, canned_log, asked_once_more};
 
 use crate::desks::Desk;
 use crate::memory::OutOfMemory;
@@ -39,14 +39,14 @@ pub struct Canned {
 impl Canned {
     // Keeps what was asked.
     fn keep(&mut self, asked: Asked)
-        ensures member { self.new.member ≡ self.old.member }
+        ensures kept { self.new ≡ asked_once_more self.old asked }
         ensures logged { Logs (canned_log self.old) (canned_log self.new) (canned_entry self.old.member asked) }
     {
         if self.count < KEPT {
             self.asked[self.count as usize] = asked;
-        }
-        if self.count <= KEPT {
             self.count += 1;
+        } else {
+            self.count = self.count.max(KEPT + 1);
         }
     }
 }
@@ -56,7 +56,12 @@ impl Desk for Canned {
 
     ghost log = { canned_log };
 
-    fn edit<L: Ledger>(&mut self, _edit: &Edit, _steps: &mut Steps<L>) -> Result<Done, EditFault> {
+    fn edit<L: Ledger>(&mut self, _edit: &Edit, steps: &mut Steps<L>) -> Result<Done, EditFault>
+        ensures done { result ≡ Ok Done.Done }
+        ensures kept { self.new ≡ asked_once_more self.old Asked.Edit }
+        ensures no_step { steps.new ≡ steps.old }
+    {
+        let _ = steps;
         self.keep(Asked::Edit);
         Ok(Done::Done)
     }
@@ -66,8 +71,14 @@ impl Desk for Canned {
         alloc: Global,
         x: i64,
         y: i64,
-        _steps: &mut Steps<L>,
-    ) -> Result<Vec<u32>, OutOfMemory> {
+        steps: &mut Steps<L>,
+    ) -> Result<Vec<u32>, OutOfMemory>
+        ensures member { IfOk result (λ ids. ids.items ≡ self.old.member ∷ []) }
+        ensures kept { OnOk result (self.new ≡ asked_once_more self.old (Asked.Hit x y)) }
+        ensures same { OnErr result (self.new ≡ self.old) }
+        ensures no_step { steps.new ≡ steps.old }
+    {
+        let _ = steps;
         let ids = Vec::from_slice(alloc, &[self.member])?;
         self.keep(Asked::Hit { x, y });
         Ok(ids)
@@ -78,8 +89,13 @@ impl Desk for Canned {
         _alloc: Global,
         x: i64,
         y: i64,
-        _steps: &mut Steps<L>,
-    ) -> Result<Option<u32>, OutOfMemory> {
+        steps: &mut Steps<L>,
+    ) -> Result<Option<u32>, OutOfMemory>
+        ensures member { result ≡ Ok (Some self.old.member) }
+        ensures kept { self.new ≡ asked_once_more self.old (Asked.Top x y) }
+        ensures no_step { steps.new ≡ steps.old }
+    {
+        let _ = steps;
         self.keep(Asked::Top { x, y });
         Ok(Some(self.member))
     }

@@ -2,10 +2,9 @@
 ghost use Rattle.std.specs.Prelude.{◌≡◌, ◌<◌};
 
 use crate::{
-    Bytes, Calm, Command, Failed, LineFault, OutOfMemory, Reply, Sink, SinkFault, Source, Status,
-    StdSink, StdSource, Taken, command_of, is_blank, print, run,
+    Asked, Bytes, Calm, Canned, Desk, Failed, OutOfMemory, Sink, SinkFault, Source, Status,
+    StdSink, StdSource, Taken, run,
 };
-use box_tree::EditFault;
 use fractions::{Blank, Brand, Ledger, Steps};
 use std::alloc::{AllocError, Global};
 use std::io;
@@ -121,6 +120,81 @@ fn the_page_is_that_of_the_desk(rt: HostRuntime) -> Result<(), Fail> {
     Ok(())
 }
 
+// A desk that finds node 7 under every point, after so many calls.
+fn canned(count: u32) -> Canned {
+    Canned {
+        member: 7,
+        count,
+        asked: [Asked::Edit; 64],
+    }
+}
+
+// Runs a script on a desk without a page.
+fn run_on_canned<L: Ledger>(
+    rt: &impl Abort,
+    alloc: Global,
+    script: &[u8],
+    desk: &mut Canned,
+    replies: &[u8],
+    blank: Blank,
+) -> Result<(), Fail>
+    requires name { blank.name ≡ L.name }
+    requires parts { blank.parts ≡ L.parts }
+    requires some_parts { 0 < blank.parts }
+{
+    let mut steps = Steps::<L>::new(blank);
+    let mut source = source_of(alloc, script, EVER, &[])?;
+    let mut sink = sink_of(alloc, EVER, &[])?;
+    let status = run(alloc, &[], &mut source, &mut sink, desk, &mut steps);
+    assert_eq!(rt; status, Status::Done);
+    assert_eq!(rt; sink.bytes.as_slice(), replies);
+    Ok(())
+}
+
+// Each answer is the one that the desk gave, which is asked for the edits and the points of the lines and nothing else.
+#[test]
+fn the_desk_is_asked_line_by_line(rt: HostRuntime) -> Result<(), Fail> {
+    let mut desk = canned(0);
+    run_on_canned::<Brand>(
+        &rt,
+        rt.alloc(),
+        THREE_BLOCKS,
+        &mut desk,
+        b"ok\nok\nok\nhit 7\nhit 7\n",
+        Blank::new(1),
+    )?;
+    assert_eq!(rt; desk.count, 5);
+    assert_eq!(rt;
+        &desk.asked[..5],
+        [
+            Asked::Edit,
+            Asked::Edit,
+            Asked::Edit,
+            Asked::Hit { x: 35, y: 35 },
+            Asked::Hit { x: 200, y: 200 },
+        ]
+        .as_slice()
+    );
+    Ok(())
+}
+
+// A line that asks for nothing, or has a fault, is no call; of more than 64 calls the first 64 are kept.
+#[test]
+fn a_canned_desk_keeps_its_first_calls(rt: HostRuntime) -> Result<(), Fail> {
+    let mut desk = canned(63);
+    run_on_canned::<Brand>(
+        &rt,
+        rt.alloc(),
+        b" \n{\"op\":\"top\",\"x\":1,\"y\":-2}\n[]\n{\"op\":\"top\",\"x\":3,\"y\":4}\n{\"op\":\"top\",\"x\":5,\"y\":6}\n",
+        &mut desk,
+        b"top 7\nerr 3 command\ntop 7\ntop 7\n",
+        Blank::new(1),
+    )?;
+    assert_eq!(rt; desk.count, 65);
+    assert_eq!(rt; desk.asked[63], Asked::Top { x: 1, y: -2 });
+    Ok(())
+}
+
 // Scripts and the replies to them.
 
 const ROOT: &[u8] =
@@ -172,7 +246,7 @@ const KEYS: &[u8] = br#"{"y":5,"op":"hit","x":5}
 "#;
 
 const KEYS_REPLIES: &[u8] =
-    b"hit\nnode 1\nerr 3 command\nerr 3 command\nhit 1\nerr 3 command\nerr 3 command\nerr 3 command\nerr 3 command\n";
+    b"hit\nnode 1\nerr 3 command\nerr 3 command\nhit 1\ntop 1\nerr 3 command\nerr 3 command\nerr 3 command\n";
 
 /// What stands in the place of an object, and white space round one.
 const FORMS: &[u8] =
@@ -226,6 +300,88 @@ const REMOVES: &[u8] =
 const REMOVES_REPLIES: &[u8] =
     b"node 1\nnode 2\nnode 3\nhit 3 2 1\nerr 4 absent\nerr 3 command\nerr 3 command\nok\nhit 1\nerr 4 absent\nnode 4\nok\nhit\nnode 5\nhit 5\n";
 
+/// Queries without a root, and at the edges of a small viewport, which belong to it.
+const TOPS: &[u8] = br#"{"op":"hit","x":5,"y":5}
+{"op":"top","x":5,"y":5}
+{"op":"top","x":-1,"y":0}
+{"op":"resize","w":100,"h":80,"max":[0,0]}
+{"op":"add","parent":0,"at":0,"kind":"block","boxes":[[0,0,0,100,80]],"style":{}}
+{"op":"hit","x":100,"y":80}
+{"op":"hit","x":101,"y":80}
+{"op":"hit","x":-1,"y":0}
+{"op":"top","x":100,"y":80}
+{"op":"top","x":101,"y":0}
+{"op":"add","parent":1,"at":0,"kind":"block","boxes":[[0,90,70,20,20]],"style":{}}
+{"op":"hit","x":100,"y":80}
+{"op":"top","x":100,"y":80}
+"#;
+
+const TOPS_REPLIES: &[u8] =
+    b"hit\ntop null\ntop null\nok\nnode 1\nhit 1\nhit\nhit\ntop 1\ntop null\nnode 2\nhit 2 1\ntop 2\n";
+
+/// A node that is placed and taken out again, and a page that loses its root.
+const PLACES: &[u8] =
+    br#"{"op":"add","parent":0,"at":0,"kind":"block","boxes":[[0,0,0,100,100]],"style":{}}
+{"op":"add","parent":1,"at":0,"kind":"block","boxes":[[0,0,0,10,10]],"style":{}}
+{"op":"place","id":2,"anchor":[50,0],"boxes":[[0,5,5,10,10]],"max":[0,0]}
+{"op":"hit","x":56,"y":6}
+{"op":"hit","x":6,"y":6}
+{"op":"remove","id":2}
+{"op":"hit","x":56,"y":6}
+{"op":"place","id":2,"anchor":[0,0],"boxes":[[0,0,0,1,1]],"max":[0,0]}
+{"op":"add","parent":1,"at":0,"kind":"block","boxes":[[0,0,0,1,1]],"style":{}}
+{"op":"remove","id":1}
+{"op":"hit","x":5,"y":5}
+{"op":"add","parent":0,"at":0,"kind":"block","boxes":[[0,0,0,100,100]],"style":{}}
+"#;
+
+const PLACES_REPLIES: &[u8] =
+    b"node 1\nnode 2\nok\nhit 2 1\nhit 1\nok\nhit 1\nerr 4 absent\nnode 3\nok\nhit\nnode 4\n";
+
+/// The limits of places and resizes, each at its last good value and one past it. The child of the placed node is at
+/// (62, 17) of the viewport: the anchor and the corner of its parent, and its own corner.
+const LAYOUTS: &[u8] =
+    br#"{"op":"add","parent":0,"at":0,"kind":"block","boxes":[[0,0,0,100,100]],"style":{}}
+{"op":"add","parent":1,"at":0,"kind":"block","boxes":[[0,0,0,10,10]],"style":{}}
+{"op":"add","parent":2,"at":0,"kind":"block","boxes":[[0,7,2,3,3]],"style":{}}
+{"max":[67108864,67108864],"boxes":[[0,5,5,10,10]],"anchor":[50,10],"id":2,"op":"place"}
+{"op":"hit","x":62,"y":17}
+{"op":"hit","x":61,"y":17}
+{"op":"hit","x":65,"y":17}
+{"op":"place","id":2,"anchor":[50,10],"boxes":[],"max":[0,0]}
+{"op":"hit","x":57,"y":12}
+{"op":"hit","x":62,"y":17}
+{"op":"place","id":2,"anchor":[67108864,-67108864],"boxes":[[0,0,0,1,1]],"max":[0,0]}
+{"op":"place","id":2,"anchor":[67108865,0],"boxes":[],"max":[0,0]}
+{"op":"place","id":2,"anchor":[0,-67108865],"boxes":[],"max":[0,0]}
+{"op":"place","id":2,"anchor":[0,0],"boxes":[],"max":[67108865,0]}
+{"op":"place","id":2,"anchor":[0,0],"boxes":[],"max":[0,-1]}
+{"op":"place","id":2,"anchor":[0,0],"boxes":[[0,0,0,67108865,0]],"max":[0,0]}
+{"op":"place","id":2,"anchor":[0],"boxes":[],"max":[0,0]}
+{"op":"place","id":2,"anchor":[0,0,0],"boxes":[],"max":[0,0]}
+{"op":"place","id":0,"anchor":[0,0],"boxes":[],"max":[0,0]}
+{"op":"place","id":2,"anchor":[0,0],"boxes":[]}
+{"op":"place","id":1,"anchor":[0,0],"boxes":[],"max":[0,0]}
+{"op":"place","id":2,"anchor":[0,0],"boxes":[[0,0,0,1,1],[0,0,0,1,1]],"max":[0,0]}
+{"op":"place","id":4294967295,"anchor":[0,0],"boxes":[[0,0,0,1,1],[0,0,0,1,1]],"max":[0,0]}
+{"op":"resize","w":1048576,"h":1048576,"max":[67108864,67108864]}
+{"op":"top","x":1048576,"y":1048576}
+{"op":"top","x":1048577,"y":0}
+{"op":"resize","w":1048577,"h":1,"max":[0,0]}
+{"op":"resize","w":1,"h":1048577,"max":[0,0]}
+{"op":"resize","w":0,"h":1,"max":[0,0]}
+{"op":"resize","w":1,"h":0,"max":[0,0]}
+{"op":"resize","w":1,"h":1,"max":[0,67108865]}
+{"op":"resize","w":1,"h":1,"max":[-1,0]}
+{"op":"resize","w":1,"h":1,"max":[0,0],"x":0}
+{"op":"resize","w":1,"h":1,"max":[0,0]}
+{"op":"top","x":1,"y":1}
+{"op":"top","x":2,"y":1}
+"#;
+
+const LAYOUTS_REPLIES: &[u8] =
+    b"node 1\nnode 2\nnode 3\nok\nhit 3 2 1\nhit 2 1\nhit 1\nok\nhit 3 1\nhit 1\nok\nerr 3 command\nerr 3 command\nerr 3 command\nerr 3 command\nerr 3 command\nerr 3 command\nerr 3 command\nerr 3 command\nerr 3 command\nerr 6 kind\nerr 6 kind\nerr 4 absent\nok\ntop 1\ntop null\nerr 3 command\nerr 3 command\nerr 3 command\nerr 3 command\nerr 3 command\nerr 3 command\nerr 3 command\nok\ntop 1\ntop null\n";
+
 fn assert_replies(
     rt: &impl Abort,
     alloc: Global,
@@ -249,6 +405,9 @@ fn scripts_are_answered(rt: HostRuntime) -> Result<(), Fail> {
     assert_replies(&rt, rt.alloc(), FORMS, FORMS_REPLIES)?;
     assert_replies(&rt, rt.alloc(), VALUES, VALUES_REPLIES)?;
     assert_replies(&rt, rt.alloc(), REMOVES, REMOVES_REPLIES)?;
+    assert_replies(&rt, rt.alloc(), TOPS, TOPS_REPLIES)?;
+    assert_replies(&rt, rt.alloc(), PLACES, PLACES_REPLIES)?;
+    assert_replies(&rt, rt.alloc(), LAYOUTS, LAYOUTS_REPLIES)?;
     assert_replies(&rt, rt.alloc(), ROOT, b"node 1\n")
 }
 
@@ -518,26 +677,7 @@ fn std_ends_pass_bytes_on_and_count_faults(rt: HostRuntime) -> Result<(), Fail> 
 }
 
 #[test]
-fn a_line_is_read_and_a_reply_is_printed(rt: HostRuntime) -> Result<(), Fail> {
-    assert!(rt; is_blank(b" \t\r") && is_blank(b"") && !is_blank(b" a"));
-    let Command::Hit { x, y } = command_of(rt.alloc(), br#"{"x":-3,"y":4,"op":"hit"}"#)? else {
-        return Ok(assert!(rt; false));
-    };
-    assert_eq!(rt; (x, y), (-3, 4));
-    let mut out = Vec::new(rt.alloc());
-    print(&Reply::Node(4294967295), &mut out)?;
-    print(&Reply::Done, &mut out)?;
-    print(&Reply::Hit(&[10, 9]), &mut out)?;
-    print(&Reply::Line(LineFault::Long), &mut out)?;
-    print(&Reply::Edit(EditFault::Full), &mut out)?;
-    assert_eq!(rt;
-        out.as_slice(),
-        b"node 4294967295\nok\nhit 10 9\nerr 1 long\nerr 10 full\n".as_slice()
-    );
-    assert_eq!(rt;
-        (LineFault::Syntax.number(), LineFault::Command.name()),
-        (Some(2), "command")
-    );
+fn the_greatest_status_has_number_seven(rt: HostRuntime) -> Result<(), Fail> {
     assert_eq!(rt; Status::TooMuch.number(), 7);
     Ok(())
 }

@@ -7,10 +7,11 @@ use Rattle.serde_json.specs.Data.{Data, Items, no_items, item}
 use Rattle.serde_json.specs.Events.{items_len, members_len}
 use Rattle.serde_json.specs.Find.{get, at, as_number, as_i64, as_str, as_array, as_object}
 use Rattle.serde_json.specs.Read.{read}
+use Rattle.fractions.specs.declared.rect.Spot.{Spot}
 use Rattle.box_tree.specs.declared.kind.Kind.{Kind}
 use Rattle.box_tree.specs.declared.kind.Kind.TheVariants.{Block}
 use Rattle.box_tree.specs.declared.piece.Piece.{Piece}
-use Rattle.box_tree.specs.declared.edit.Edit.TheVariants.{Add, Remove, Move}
+use Rattle.box_tree.specs.declared.edit.Edit.TheVariants.{Add, Remove, Move, Place, Resize}
 use Rattle.box_tree.specs.Edited.{IsInRange}
 use Rattle.box_tree.specs.Contents.{IsWithin}
 use Rattle.script_lines.specs.declared.command.Command.{Command}
@@ -52,6 +53,28 @@ is_array_of n d = option_map_or (λ items. items_len items == n) (as_array d) fa
 -- the value is an object of so many keys, each of which stands in it once
 abbrev pub is_object_of : ℕ → Data → Bool
 is_object_of n d = option_map_or (λ members. members_len members == n) (as_object d) false
+
+-- a whole number from 1 to 2^20
+abbrev pub viewport_side : Data → Option ℤ
+viewport_side = number_within (pos 1) (pos 1048576)
+
+abbrev pub spot_numbers : ℤ → ℤ → Data → Option Spot
+spot_numbers low high d = do
+  x ← at 0 d >>= number_within low high
+  y ← at 1 d >>= number_within low high
+  Some (record { x = x; y = y })
+
+-- two numbers within two bounds, which are written `[x,y]`
+unfoldable pub spot_within : ℤ → ℤ → Data → Option Spot
+spot_within low high d = if is_array_of 2 d then spot_numbers low high d else None
+
+-- two coordinates
+abbrev pub anchor_of : Data → Option Spot
+anchor_of = spot_within (negsuc 67108863) (pos 67108864)
+
+-- a greatest scroll, 0 to 2^26 across and down
+abbrev pub max_of : Data → Option Spot
+max_of = spot_within (pos 0) (pos 67108864)
 
 -- a box whose right and bottom edges are at most 2^26
 abbrev pub box_at : ℕ → ℤ → ℤ → ℤ → ℤ → Option Piece
@@ -131,6 +154,35 @@ move_fields d = do
 unfoldable pub move_of : Data → Option Command
 move_of d = if is_object_of 4 d then move_fields d else None
 
+-- the id, the anchor and the greatest scroll of a node that is placed
+unfoldable pub layout : Data → Option (ℕ × Spot × Spot)
+layout d = do
+  id ← get (codes "id") d >>= id_of
+  anchor ← get (codes "anchor") d >>= anchor_of
+  max ← get (codes "max") d >>= max_of
+  Some (id, anchor, max)
+
+abbrev pub place_fields : Data → Option Command
+place_fields d = do
+  node ← layout d
+  boxes ← get (codes "boxes") d >>= boxes_of
+  Some (Edit (Place node.0 node.1 boxes node.2))
+
+-- the row of `place`, its keys in any order and no other key
+unfoldable pub place_of : Data → Option Command
+place_of d = if is_object_of 5 d then place_fields d else None
+
+abbrev pub resize_fields : Data → Option Command
+resize_fields d = do
+  w ← get (codes "w") d >>= viewport_side
+  h ← get (codes "h") d >>= viewport_side
+  max ← get (codes "max") d >>= max_of
+  Some (Edit (Resize w h max))
+
+-- the row of `resize`, its keys in any order and no other key
+unfoldable pub resize_of : Data → Option Command
+resize_of d = if is_object_of 4 d then resize_fields d else None
+
 -- the point that a query asks about
 abbrev pub point_fields : Data → Option (ℤ × ℤ)
 point_fields d = do
@@ -154,6 +206,8 @@ row_named op d =
     if bytes_eq op (codes "add") then add_of d
     else if bytes_eq op (codes "remove") then remove_of d
     else if bytes_eq op (codes "move") then move_of d
+    else if bytes_eq op (codes "place") then place_of d
+    else if bytes_eq op (codes "resize") then resize_of d
     else if bytes_eq op (codes "hit") then hit_of d
     else if bytes_eq op (codes "top") then top_of d
     else None

@@ -4,7 +4,7 @@ ghost use Rattle.serde_json.specs.Errors.{IsMemory};
 ghost use Rattle.script_lines.specs.Blank.{is_blank as blank};
 ghost use Rattle.script_lines.specs.Command.{is_long, json_reading, meaning, IsAskable};
 
-use crate::reading::command_from;
+use crate::rows::command_from;
 use box_tree::Edit;
 use serde_json::{Category, Error, Value};
 use std::alloc::Global;

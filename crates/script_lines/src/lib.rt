@@ -2,12 +2,13 @@
 //!
 //! It promises that `command_of` answers what a line means by `specs/Command.antt`, or its first fault, and that `print`
 //! writes the reply line of `specs/Reply.antt` and nothing else. It stands on `serde_json` for the reading of a line, on
-//! `itoa` for numbers, and on `box_tree` for edits and their faults.
+//! `itoa` for numbers, on `box_tree` for edits and their faults, and on `fractions` for points.
 #![tactic(auto)]
 
 mod command;
-mod reading;
 mod reply;
+mod rows;
+mod values;
 
 pub use command::{Command, LONGEST_LINE, LineFault, command_of, is_blank};
 pub use reply::{OutOfMemory, Reply, print};

@@ -1,0 +1,172 @@
+// The rows of the ops, from a JSON object to a command.
+ghost use Rattle.std.specs.Prelude.{◌≡◌, IfOk, IfSome};
+ghost use Rattle.serde_json.specs.View.{view};
+ghost use Rattle.box_tree.specs.Contents.{IsSpotInRange, IsMaxInRange, IsWithin};
+ghost use Rattle.script_lines.specs.Command.{new_node, add_of, remove_of, move_of, layout, place_of, resize_of, point_of, hit_of, top_of, command_reading, IsAskable};
+
+use crate::command::Command;
+use crate::values::{
+    anchor_from, boxes_from, coordinate, id_from, is_object_of, kind_from, max_from, number_to,
+    style_from, viewport_side,
+};
+use box_tree::{Edit, Kind};
+use fractions::Spot;
+use serde_json::Value;
+use std::alloc::{AllocError, Global};
+
+// The parent, the place and the kind of a new node.
+#[tactic(auto, unfolding(crate::specs::Command::new_node))]
+fn node_from(value: &Value) -> Option<(u32, u32, Kind)>
+    ensures { result ≡ new_node (view value.now) }
+{
+    let parent = number_to(value.get("parent"), u32::MAX)?;
+    let at = number_to(value.get("at"), u32::MAX)?;
+    let kind = kind_from(value.get("kind"))?;
+    style_from(value.get("style"))?;
+    Some((parent, at, kind))
+}
+
+#[tactic(auto, unfolding(crate::specs::Command::add_of))]
+fn add_from(alloc: Global, value: &Value) -> Result<Option<Command>, AllocError>
+    ensures value { IfOk result (λ command. command ≡ add_of (view value.now)) }
+    ensures in_range { IfOk result (λ command. IfSome command IsAskable) }
+{
+    if !is_object_of(value, 6) {
+        return Ok(None);
+    }
+    let Some((parent, at, kind)) = node_from(value) else {
+        return Ok(None);
+    };
+    let Some(boxes) = boxes_from(alloc, value.get("boxes"))? else {
+        return Ok(None);
+    };
+    Ok(Some(Command::Edit(Edit::Add {
+        parent,
+        at,
+        kind,
+        boxes,
+    })))
+}
+
+#[tactic(auto, unfolding(crate::specs::Command::remove_of))]
+fn remove_from(value: &Value) -> Option<Command>
+    ensures value { result ≡ remove_of (view value.now) }
+    ensures in_range { IfSome result IsAskable }
+{
+    if !is_object_of(value, 2) {
+        return None;
+    }
+    let id = id_from(value.get("id"))?;
+    Some(Command::Edit(Edit::Remove { id }))
+}
+
+#[tactic(auto, unfolding(crate::specs::Command::move_of))]
+fn move_from(value: &Value) -> Option<Command>
+    ensures value { result ≡ move_of (view value.now) }
+    ensures in_range { IfSome result IsAskable }
+{
+    if !is_object_of(value, 4) {
+        return None;
+    }
+    let id = id_from(value.get("id"))?;
+    let parent = number_to(value.get("parent"), u32::MAX)?;
+    let at = number_to(value.get("at"), u32::MAX)?;
+    Some(Command::Edit(Edit::Move { id, parent, at }))
+}
+
+#[tactic(auto, unfolding(crate::specs::Command::place_of))]
+fn place_from(alloc: Global, value: &Value) -> Result<Option<Command>, AllocError>
+    ensures value { IfOk result (λ command. command ≡ place_of (view value.now)) }
+    ensures in_range { IfOk result (λ command. IfSome command IsAskable) }
+{
+    if !is_object_of(value, 5) {
+        return Ok(None);
+    }
+    let Some((id, anchor, max)) = layout_from(value) else {
+        return Ok(None);
+    };
+    let Some(boxes) = boxes_from(alloc, value.get("boxes"))? else {
+        return Ok(None);
+    };
+    Ok(Some(Command::Edit(Edit::Place {
+        id,
+        anchor,
+        boxes,
+        max,
+    })))
+}
+
+// The id, the anchor and the greatest scroll of a node that is placed.
+#[tactic(auto, unfolding(crate::specs::Command::layout))]
+fn layout_from(value: &Value) -> Option<(u32, Spot, Spot)>
+    ensures value { result ≡ layout (view value.now) }
+    ensures anchor { IfSome result (λ l. IsSpotInRange l.1) }
+    ensures max { IfSome result (λ l. IsMaxInRange l.2) }
+{
+    let id = id_from(value.get("id"))?;
+    let anchor = anchor_from(value.get("anchor"))?;
+    let max = max_from(value.get("max"))?;
+    Some((id, anchor, max))
+}
+
+#[tactic(auto, unfolding(crate::specs::Command::resize_of))]
+fn resize_from(value: &Value) -> Option<Command>
+    ensures value { result ≡ resize_of (view value.now) }
+    ensures in_range { IfSome result IsAskable }
+{
+    if !is_object_of(value, 4) {
+        return None;
+    }
+    let w = viewport_side(value.get("w"))?;
+    let h = viewport_side(value.get("h"))?;
+    let max = max_from(value.get("max"))?;
+    Some(Command::Edit(Edit::Resize { w, h, max }))
+}
+
+// The point that a query asks about.
+#[tactic(auto, unfolding(crate::specs::Command::point_of))]
+fn point_from(value: &Value) -> Option<(i64, i64)>
+    ensures value { result ≡ point_of (view value.now) }
+    ensures in_range { IfSome result (λ point. IsWithin 26 point.0 × IsWithin 26 point.1) }
+{
+    if !is_object_of(value, 3) {
+        return None;
+    }
+    let x = coordinate(value.get("x"))?;
+    let y = coordinate(value.get("y"))?;
+    Some((x, y))
+}
+
+fn hit_from(value: &Value) -> Option<Command>
+    ensures value { result ≡ hit_of (view value.now) }
+    ensures in_range { IfSome result IsAskable }
+{
+    let (x, y) = point_from(value)?;
+    Some(Command::Hit { x, y })
+}
+
+fn top_from(value: &Value) -> Option<Command>
+    ensures value { result ≡ top_of (view value.now) }
+    ensures in_range { IfSome result IsAskable }
+{
+    let (x, y) = point_from(value)?;
+    Some(Command::Top { x, y })
+}
+
+/// The command that a JSON value spells.
+#[tactic(auto, unfolding(crate::specs::Command::command_reading))]
+pub fn command_from(alloc: Global, value: &Value) -> Result<Option<Command>, AllocError>
+    ensures value { IfOk result (λ command. command ≡ command_reading (view value.now)) }
+    ensures in_range { IfOk result (λ command. IfSome command IsAskable) }
+{
+    match value.get("op").and_then(Value::as_str) {
+        Some("add") => add_from(alloc, value),
+        Some("remove") => Ok(remove_from(value)),
+        Some("move") => Ok(move_from(value)),
+        Some("place") => place_from(alloc, value),
+        Some("resize") => Ok(resize_from(value)),
+        Some("hit") => Ok(hit_from(value)),
+        Some("top") => Ok(top_from(value)),
+        _ => Ok(None),
+    }
+}
