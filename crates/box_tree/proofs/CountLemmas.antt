@@ -20,7 +20,7 @@ abbrev pub times_in : ℕ → List ℕ → ℕ
 times_in k [] = 0
 times_in k (x ∷ xs) = (if x == k then 1 else 0) + times_in k xs
 
-times_in-append : (k : ℕ) (xs ys : List ℕ) → times_in k (xs ++ ys) ≡ times_in k xs + times_in k ys
+pub times_in-append : (k : ℕ) (xs ys : List ℕ) → times_in k (xs ++ ys) ≡ times_in k xs + times_in k ys
 times_in-append k [] ys = omega arith
 times_in-append k (x ∷ xs) ys = omega (arith, times_in-append k xs ys)
 

@@ -14,8 +14,8 @@ use Rattle.box_tree.specs.declared.edit.Edit.TheVariants.{Place, Resize}
 use Rattle.box_tree.specs.declared.plan.Placement.{Placement}
 use Rattle.box_tree.specs.declared.plan.Plan.TheVariants.{PlaceNode, ResizeViewport}
 use Rattle.box_tree.specs.Forest.{Label, Forest, End, Grow, roots_of, node_count, height_of, occurrences, Placed, placed_in, EachNode}
-use Rattle.box_tree.specs.Contents.{Contents, node_at, node_of, placed_of, has_id, parent_id, boxes_suit, IsMaxInRange, IsScrolled, IsGiven, IsSuited, IsValid}
-use Rattle.box_tree.specs.Edited.{relabelled, clamped_to, laid_out, resized, ancestors_of, first_fault, faults_of}
+use Rattle.box_tree.specs.Contents.{Contents, node_at, node_of, placed_of, ancestors_of, has_id, parent_id, boxes_suit, IsMaxInRange, IsScrolled, IsGiven, IsSuited, IsValid}
+use Rattle.box_tree.specs.Edited.{relabelled, clamped_to, laid_out, resized, first_fault, faults_of}
 use Rattle.box_tree.specs.Kept.{node_with, label_of, with_label, IsKept}
 use Rattle.box_tree.specs.PageState.{PageState}
 use Rattle.box_tree.specs.Planned.{IsPlanned}

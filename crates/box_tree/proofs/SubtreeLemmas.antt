@@ -8,20 +8,12 @@ use Rattle.std.proofs.lemmas.Bool.{cases_lt, cases_eq}
 use Rattle.std.proofs.lemmas.Bool.Decides.{nat_tests}
 use Rattle.box_tree.specs.declared.node.Node.{Node}
 use Rattle.box_tree.specs.Forest.{Label, Forest, End, Grow, roots_of, ids_in, height_of, occurrences, Placed, placed_in}
-use Rattle.box_tree.specs.Contents.{Contents, node_of, placed_of, tree_of, has_id, parent_id, IsValid}
+use Rattle.box_tree.specs.Contents.{Contents, node_of, placed_of, tree_of, below_of, ancestor_count, has_id, parent_id, IsValid}
 use Rattle.box_tree.specs.Edited.{ancestors_below}
 use Rattle.box_tree.specs.Planned.{ids_without, is_among}
 use Rattle.box_tree.proofs.ForestLemmas.{placed_in-head, placed_in-below, placed_in-others}
 use Rattle.box_tree.proofs.PlanLemmas.{id-placed_in}
 use Rattle.box_tree.proofs.PlacedLemmas.{AreAtPlaces, trees_from, trees_from-all, depth-placed_in, IsSeenAt, seen_at, IsChildAt, child_at}
-
--- the trees below a node
-abbrev pub below_of : Contents → ℕ → Forest
-below_of page id = option_map_or (λ p. p.below) (placed_of page id) End
-
--- how many ancestors a node has
-abbrev pub ancestor_count : Contents → ℕ → ℕ
-ancestor_count page id = option_map_or (λ p. length p.above) (placed_of page id) 0
 
 -- where a node was found: at the head, or below it, or in the other trees
 pub data Found (n : Label) (below others : Forest) (above : List Label) (id : ℕ) (p : Placed) : Type 0 where
@@ -132,25 +124,25 @@ ids_in-cons : (n : Label) (below others : Forest) → ids_in (Grow n below other
 ids_in-cons n below others = rw (append-nil (ids_in below)) refl
 
 module _ (page : Contents) (valid : IsValid page) (id : ℕ) (node : Node) (seen : node_of page id ≡ Some node) where
-  at_place : IsSeenAt page id node
+  pub at_place : IsSeenAt page id node
   at_place = seen_at page id node seen
 
-  abbrev place : Placed
+  abbrev pub place : Placed
   place = at_place.place
 
-  tree_of-seen : tree_of page id ≡ Grow place.label place.below End
+  pub tree_of-seen : tree_of page id ≡ Grow place.label place.below End
   tree_of-seen = ap (λ o. option_map_or (λ p. Grow p.label p.below End) o End) at_place.found
 
-  below_of-seen : below_of page id ≡ place.below
+  pub below_of-seen : below_of page id ≡ place.below
   below_of-seen = ap (λ o. option_map_or (λ p. p.below) o End) at_place.found
 
-  ancestor_count-seen : ancestor_count page id ≡ length place.above
-  ancestor_count-seen = ap (λ o. option_map_or (λ p. length p.above) o 0) at_place.found
+  pub ancestor_count-seen : ancestor_count page id ≡ length place.above
+  ancestor_count-seen = ap (λ o. length (option_map_or (λ p. p.above) o [])) at_place.found
 
   pub few_ancestors : ancestor_count page id ≤ 255
   few_ancestors = omega (arith, ancestor_count-seen, depth-placed_in page.tree [] id place at_place.found, valid.depth)
 
-  children_is : node.children ≡ roots_of place.below
+  pub children_is : node.children ≡ roots_of place.below
   children_is = ap (λ (n : Node). n.children) (sym at_place.node_is)
 
   -- the walk has the node itself first, and then all below it
@@ -158,12 +150,12 @@ module _ (page : Contents) (valid : IsValid page) (id : ℕ) (node : Node) (seen
   ids-start = rw (below_of-seen, tree_of-seen, append-nil (ids_in place.below)) (ap (λ k. k ∷ ids_in place.below) (sym (id-placed_in page.tree [] id place at_place.found)))
 
   module _ (k child d : ℕ) (within : k < length node.children) (is : get_or node.children k d ≡ child) where
-    the_child : IsChildAt page place k child
+    pub the_child : IsChildAt page place k child
     the_child = child_at page id place k child d valid at_place.found (subst (λ (ids : List ℕ). k < length ids) children_is within) (subst (λ (ids : List ℕ). get_or ids k d ≡ child) children_is is)
 
     pub ancestor_count-child : ancestor_count page child ≡ 1 + ancestor_count page id
     ancestor_count-child =
-        let count = ap (λ (o : Option Placed). option_map_or (λ p. length p.above) o 0) the_child.found in
+        let count = ap (λ (o : Option Placed). length (option_map_or (λ p. p.above) o [])) the_child.found in
         omega (arith, count, ancestor_count-seen)
 
     -- the ids of the children from this one on are those of its tree, and of the trees after it

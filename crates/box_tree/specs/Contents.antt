@@ -46,6 +46,18 @@ placed_of page id = placed_in [] page.tree id
 abbrev pub tree_of : Contents → ℕ → Forest
 tree_of page id = option_map_or (λ p. Grow p.label p.below End) (placed_of page id) End
 
+-- the trees below a node
+abbrev pub below_of : Contents → ℕ → Forest
+below_of page id = option_map_or (λ p. p.below) (placed_of page id) End
+
+-- the ancestors of a node, from its parent on up
+abbrev pub ancestors_of : Contents → ℕ → List Label
+ancestors_of page id = option_map_or (λ p. p.above) (placed_of page id) []
+
+-- how many ancestors a node has
+abbrev pub ancestor_count : Contents → ℕ → ℕ
+ancestor_count page id = length (ancestors_of page id)
+
 -- what a reader sees of the node of an id
 abbrev pub node_of : Contents → ℕ → Option Node
 node_of page id = option_map node_at (placed_of page id)

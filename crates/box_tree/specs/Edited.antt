@@ -13,7 +13,7 @@ use Rattle.box_tree.specs.declared.edit.Done.TheVariants.{Node as NodeAdded, Don
 use Rattle.box_tree.specs.declared.edit.EditFault.{EditFault}
 use Rattle.box_tree.specs.declared.edit.EditFault.TheVariants as fault
 use Rattle.box_tree.specs.Forest.{Label, Forest, End, Grow, roots_of, node_count, height_of, occurrences}
-use Rattle.box_tree.specs.Contents.{Contents, placed_of, tree_of, has_id, depth_below, new_label, boxes_suit, IsBoxInRange, IsSpotInRange, IsMaxInRange}
+use Rattle.box_tree.specs.Contents.{Contents, placed_of, tree_of, ancestors_of, has_id, depth_below, new_label, boxes_suit, IsBoxInRange, IsSpotInRange, IsMaxInRange}
 
 -- the numbers of a place are within their limits
 pub record IsPlaceInRange (anchor : Spot) (boxes : List Piece) (max : Spot) : Type 0 where
@@ -106,10 +106,6 @@ answer_of page (Resize w h max) = EditDone
 -- the ancestors that a child of `parent` has, from that node on up
 abbrev pub ancestors_below : Contents → ℕ → List Label
 ancestors_below page parent = option_map_or (λ p. p.label ∷ p.above) (placed_of page parent) []
-
--- the ancestors of a node, from its parent on up
-abbrev pub ancestors_of : Contents → ℕ → List Label
-ancestors_of page id = option_map_or (λ p. p.above) (placed_of page id) []
 
 -- the number of children of `parent`, and 0 for parent 0
 abbrev pub child_count : Contents → ℕ → ℕ

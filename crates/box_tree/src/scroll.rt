@@ -12,3 +12,6 @@ pub(crate) fn clamp(scroll: Spot, max: Spot) -> Spot
         y: scroll.y.min(max.y).max(0),
     }
 }
+
+#[cfg(test)]
+mod tests;

@@ -9,12 +9,13 @@ use Rattle.std.proofs.lemmas.List.{append-nil, map-append, reverse-append}
 use Rattle.std.proofs.lemmas.List.Elements.{filter-append}
 use Rattle.box_tree.specs.declared.piece.Piece.{Piece}
 use Rattle.box_tree.specs.Forest.{Label, Forest, End, Grow, roots_of, tree_order, occurrences, Placed, placed_in}
-use Rattle.box_tree.specs.Contents.{Contents, placed_of, has_box, IsValid, tree_of}
+use Rattle.box_tree.specs.Contents.{Contents, placed_of, has_box, IsValid, tree_of, ancestor_count}
+use Rattle.box_tree.proofs.CountLemmas.{times_in, times_in-append}
 use Rattle.box_tree.proofs.ForestLemmas.{placed_in-head}
 use Rattle.box_tree.proofs.PlacedLemmas.{AreAtPlaces, page-at_places}
 use Rattle.point_query.specs.declared.elements.Local.{Local}
 use Rattle.point_query.specs.Elements.{placed_from, space, local_point, box_holds, admits, layer, each_once, then_root, is_inside, elements_with, elements_from_point}
-use Rattle.point_query.specs.Walk.{fine_point, from_start, within, own_at, admitted_in, ancestor_count}
+use Rattle.point_query.specs.Walk.{fine_point, from_start, within, own_at, admitted_in}
 
 -- a filter of a list from its end
 filter-reverse : {A : Type 0} (p : A → Bool) (xs : List A) → filter p (reverse xs) ≡ reverse (filter p xs)
@@ -26,15 +27,7 @@ filter-reverse p (x ∷ xs) =
     by_test true = sym (reverse-append (x ∷ []) (filter p xs))
     by_test false = append-nil (reverse (filter p xs))
 
--- how often a number stands in a list
-abbrev pub times_in : ℕ → List ℕ → ℕ
-times_in id [] = 0
-times_in id (x ∷ xs) = (if x == id then 1 else 0) + times_in id xs
-
-times_in-append : (id : ℕ) (xs ys : List ℕ) → times_in id (xs ++ ys) ≡ times_in id xs + times_in id ys
-times_in-append id [] ys = omega arith
-times_in-append id (x ∷ xs) ys = omega (arith, times_in-append id xs ys)
-
+-- a list turned round, or some members of a list
 times_in-reverse : (id : ℕ) (xs : List ℕ) → times_in id (reverse xs) ≡ times_in id xs
 times_in-reverse id [] = refl
 times_in-reverse id (x ∷ xs) = rw (reverse-append (x ∷ []) xs, times_in-append id (reverse xs) (x ∷ [])) (omega (arith, times_in-reverse id xs))
@@ -149,7 +142,7 @@ pub tree_of-root : (page : Contents) (root : ℕ) → IsRootOf page root → tre
 tree_of-root page root is = ap (λ (o : Option Placed). option_map_or (λ p. Grow p.label p.below End) o End) is.found ∙ sym is.tree_is
 
 pub ancestor_count-root : (page : Contents) (root : ℕ) → IsRootOf page root → ancestor_count page root ≡ 0
-ancestor_count-root page root is = ap (λ (o : Option Placed). option_map_or (λ p. length p.above) o 0) is.found
+ancestor_count-root page root is = ap (λ (o : Option Placed). length (option_map_or (λ p. p.above) o [])) is.found
 
 -- what the walk from the root admits, reversed and with the root at the end, is the answer
 pub answered : (page : Contents) (x y : ℤ) (root : ℕ) (at : Local) → IsValid page → roots_of page.tree ≡ root ∷ [] → is_inside page.viewport x y ≡ true → IsLocalAt page x y [] at → then_root root (reverse (admitted_in at (tree_of page root))) ≡ elements_from_point page x y

@@ -5,14 +5,15 @@ use Rattle.std.specs.Option.{option_map_or}
 use Rattle.fractions.specs.declared.rect.Spot.{Spot}
 use Rattle.box_tree.specs.declared.piece.Piece.{Piece}
 use Rattle.box_tree.specs.declared.node.Node.{Node}
-use Rattle.box_tree.specs.Forest.{Label, Forest, End, Grow, roots_of, Placed}
-use Rattle.box_tree.specs.Contents.{Contents, node_of, has_id, IsValid, tree_of}
-use Rattle.box_tree.proofs.PlacedLemmas.{trees_from, trees_from-all, depth-placed_in, IsSeenAt, seen_at, IsChildAt, child_at}
+use Rattle.box_tree.specs.Forest.{Label, Forest, End, Grow, Placed}
+use Rattle.box_tree.specs.Contents.{Contents, node_at, node_of, has_id, IsValid, tree_of, below_of}
+use Rattle.box_tree.proofs.PlacedLemmas.{trees_from, trees_from-all, IsChildAt}
+use Rattle.box_tree.proofs.SubtreeLemmas.{at_place, place, tree_of-seen, below_of-seen, children_is, the_child}
 use Rattle.box_tree.proofs.PlanLemmas.{id-placed_in}
 use Rattle.point_query.specs.declared.elements.Local.{Local}
 use Rattle.std.specs.Prelude.{if◌then◌else◌}
 use Rattle.point_query.specs.Elements.{box_holds}
-use Rattle.point_query.specs.Walk.{fine_point, from_start, within, own_at, admitted_in, below_of, ancestor_count, IsNear}
+use Rattle.point_query.specs.Walk.{fine_point, from_start, within, own_at, admitted_in, IsNear}
 
 -- what is admitted of the first tree comes before what is admitted of the others
 pub admitted_in-cons : (at : Local) (n : Label) (below others : Forest) → admitted_in at (Grow n below others) ≡ admitted_in at (Grow n below End) ++ admitted_in at others
@@ -23,70 +24,50 @@ pub near-more : (n m : ℕ) (at : Local) → n ≤ m → IsNear n at → IsNear 
 near-more n m at more near = record { across = omega (arith, near.across); down = omega (arith, near.down) }
 
 module _ (page : Contents) (valid : IsValid page) (id : ℕ) (node : Node) (seen : node_of page id ≡ Some node) where
-  pub at_place : IsSeenAt page id node
-  at_place = seen_at page id node seen
+  abbrev found : Placed
+  found = place page valid id node seen
 
-  abbrev pub place : Placed
-  place = at_place.place
+  abbrev seen_is : node_at found ≡ node
+  seen_is = (at_place page valid id node seen).node_is
 
-  pub tree_of-seen : tree_of page id ≡ Grow place.label place.below End
-  tree_of-seen = ap (λ o. option_map_or (λ p. Grow p.label p.below End) o End) at_place.found
+  boxes_is : node.boxes ≡ found.label.boxes
+  boxes_is = ap (λ (n : Node). n.boxes) (sym seen_is)
 
-  pub below_of-seen : below_of page id ≡ place.below
-  below_of-seen = ap (λ o. option_map_or (λ p. p.below) o End) at_place.found
+  anchor_is : node.anchor ≡ found.label.anchor
+  anchor_is = ap (λ (n : Node). n.anchor) (sym seen_is)
 
-  pub ancestor_count-seen : ancestor_count page id ≡ length place.above
-  ancestor_count-seen = ap (λ o. option_map_or (λ p. length p.above) o 0) at_place.found
-
-  pub few_ancestors : ancestor_count page id ≤ 255
-  few_ancestors = omega (arith, ancestor_count-seen, depth-placed_in page.tree [] id place at_place.found, valid.depth)
-
-  children_is : node.children ≡ roots_of place.below
-  children_is = ap (λ (n : Node). n.children) (sym at_place.node_is)
-
-  pub boxes_is : node.boxes ≡ place.label.boxes
-  boxes_is = ap (λ (n : Node). n.boxes) (sym at_place.node_is)
-
-  pub anchor_is : node.anchor ≡ place.label.anchor
-  anchor_is = ap (λ (n : Node). n.anchor) (sym at_place.node_is)
-
-  pub id_is : place.label.id ≡ id
-  id_is = id-placed_in page.tree [] id place at_place.found
+  id_is : found.label.id ≡ id
+  id_is = id-placed_in page.tree [] id found (at_place page valid id node seen).found
 
   -- the walk has the node itself first, and then all below it
-  pub walk-start : (at : Local) → own_at at place.label ++ admitted_in (within node.anchor node.boxes at) (below_of page id) ≡ admitted_in at (tree_of page id)
+  pub walk-start : (at : Local) → own_at at found.label ++ admitted_in (within node.anchor node.boxes at) (below_of page id) ≡ admitted_in at (tree_of page id)
   walk-start at =
-      ap (λ (f : Forest). own_at at place.label ++ admitted_in (within node.anchor node.boxes at) f) below_of-seen
-      ∙ ap (λ (boxes : List Piece). own_at at place.label ++ admitted_in (within node.anchor boxes at) place.below) boxes_is
-      ∙ ap (λ (anchor : Spot). own_at at place.label ++ admitted_in (within anchor place.label.boxes at) place.below) anchor_is
-      ∙ ap (λ xs. own_at at place.label ++ xs) (sym (append-nil (admitted_in (within place.label.anchor place.label.boxes at) place.below)))
-      ∙ sym (ap (admitted_in at) tree_of-seen)
+      ap (λ (f : Forest). own_at at found.label ++ admitted_in (within node.anchor node.boxes at) f) (below_of-seen page valid id node seen)
+      ∙ ap (λ (boxes : List Piece). own_at at found.label ++ admitted_in (within node.anchor boxes at) found.below) boxes_is
+      ∙ ap (λ (anchor : Spot). own_at at found.label ++ admitted_in (within anchor found.label.boxes at) found.below) anchor_is
+      ∙ ap (λ xs. own_at at found.label ++ xs) (sym (append-nil (admitted_in (within found.label.anchor found.label.boxes at) found.below)))
+      ∙ sym (ap (admitted_in at) (tree_of-seen page valid id node seen))
 
-  module _ (k child d : ℕ) (within : k < length node.children) (is : get_or node.children k d ≡ child) where
-    the_child : IsChildAt page place k child
-    the_child = child_at page id place k child d valid at_place.found (subst (λ (ids : List ℕ). k < length ids) children_is within) (subst (λ (ids : List ℕ). get_or ids k d ≡ child) children_is is)
+  module _ (k child d : ℕ) (in_list : k < length node.children) (is : get_or node.children k d ≡ child) where
+    abbrev child_is : IsChildAt page found k child
+    child_is = the_child page valid id node seen k child d in_list is
 
     pub child-there : IsTrue (has_id page child)
-    child-there = ap is_some the_child.found
-
-    pub ancestor_count-child : ancestor_count page child ≡ 1 + ancestor_count page id
-    ancestor_count-child =
-        let count = ap (λ (o : Option Placed). option_map_or (λ p. length p.above) o 0) the_child.found in
-        omega (arith, count, ancestor_count-seen)
+    child-there = ap is_some child_is.found
 
     -- what is admitted of the children from this one on is what is admitted of it, and of those after it
     pub walk-step : (at : Local) → admitted_in at (trees_from k (below_of page id)) ≡ admitted_in at (tree_of page child) ++ admitted_in at (trees_from (k + 1) (below_of page id))
     walk-step at =
-        let tree_is = ap (λ (o : Option Placed). option_map_or (λ p. Grow p.label p.below End) o End) the_child.found in
-        rw (below_of-seen, the_child.trees_are, tree_is) (admitted_in-cons at the_child.label the_child.below (trees_from (k + 1) place.below))
+        let tree_is = ap (λ (o : Option Placed). option_map_or (λ p. Grow p.label p.below End) o End) child_is.found in
+        rw (below_of-seen page valid id node seen, child_is.trees_are, tree_is) (admitted_in-cons at child_is.label child_is.below (trees_from (k + 1) found.below))
 
   -- no child is left after the last
   pub walk-end : (at : Local) (k : ℕ) → length node.children ≤ k → admitted_in at (trees_from k (below_of page id)) ≡ []
-  walk-end at k all = rw below_of-seen (ap (admitted_in at) (trees_from-all place.below k (subst (λ (ids : List ℕ). length ids ≤ k) children_is all)))
+  walk-end at k all = rw (below_of-seen page valid id node seen) (ap (admitted_in at) (trees_from-all found.below k (subst (λ (ids : List ℕ). length ids ≤ k) (children_is page valid id node seen) all)))
 
   -- the id, where the node's own box holds the point
-  pub own_at-seen : (at : Local) → own_at at place.label ≡ (if box_holds node.boxes (fine_point (from_start node.anchor at)) then id ∷ [] else [])
+  pub own_at-seen : (at : Local) → own_at at found.label ≡ (if box_holds node.boxes (fine_point (from_start node.anchor at)) then id ∷ [] else [])
   own_at-seen at =
-      ap (λ (boxes : List Piece). if box_holds boxes (fine_point (from_start place.label.anchor at)) then place.label.id ∷ [] else []) (sym boxes_is)
-      ∙ ap (λ (anchor : Spot). if box_holds node.boxes (fine_point (from_start anchor at)) then place.label.id ∷ [] else []) (sym anchor_is)
+      ap (λ (boxes : List Piece). if box_holds boxes (fine_point (from_start found.label.anchor at)) then found.label.id ∷ [] else []) (sym boxes_is)
+      ∙ ap (λ (anchor : Spot). if box_holds node.boxes (fine_point (from_start anchor at)) then found.label.id ∷ [] else []) (sym anchor_is)
       ∙ ap (λ own. if box_holds node.boxes (fine_point (from_start node.anchor at)) then own ∷ [] else []) id_is

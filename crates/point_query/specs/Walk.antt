@@ -1,10 +1,8 @@
 -- What a walk over the trees admits at a point, as it goes down with the point in the space of the trees.
-use Rattle.std.specs.Prelude.{ℕ, ◌+◌, ◌*◌, ◌≤◌, ◌^◌, List, [], ◌∷◌, ◌++◌, length, if◌then◌else◌, pos, ◌-ℤ◌, ◌*ℤ◌, unsigned_abs}
-use Rattle.std.specs.Option.{option_map_or}
+use Rattle.std.specs.Prelude.{ℕ, ◌+◌, ◌*◌, ◌≤◌, ◌^◌, List, [], ◌∷◌, ◌++◌, if◌then◌else◌, pos, ◌-ℤ◌, ◌*ℤ◌, unsigned_abs}
 use Rattle.fractions.specs.declared.rect.Spot.{Spot}
 use Rattle.box_tree.specs.declared.piece.Piece.{Piece}
 use Rattle.box_tree.specs.Forest.{Label, Forest, End, Grow}
-use Rattle.box_tree.specs.Contents.{Contents, placed_of}
 use Rattle.point_query.specs.declared.elements.Local.{Local}
 use Rattle.point_query.specs.Elements.{FinePoint, padding_corner, box_holds}
 
@@ -28,14 +26,6 @@ own_at at n = if box_holds n.boxes (fine_point (from_start n.anchor at)) then n.
 abbrev pub admitted_in : Local → Forest → List ℕ
 admitted_in at End = []
 admitted_in at (Grow n below others) = own_at at n ++ (admitted_in (within n.anchor n.boxes at) below ++ admitted_in at others)
-
--- the trees below a node
-abbrev pub below_of : Contents → ℕ → Forest
-below_of page id = option_map_or (λ p. p.below) (placed_of page id) End
-
--- how many ancestors a node has
-abbrev pub ancestor_count : Contents → ℕ → ℕ
-ancestor_count page id = option_map_or (λ p. length p.above) (placed_of page id) 0
 
 -- a point as far away as that many numbers of 64 bits may bring it
 pub record IsNear (numbers : ℕ) (at : Local) : Type 0 where

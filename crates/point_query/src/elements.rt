@@ -1,8 +1,8 @@
 ghost use Rattle.std.specs.Prelude.{◌≡◌, ◌↔◌, ◌⊎◌, false, IsNone, ℕ, ◌+◌, ◌*◌, ◌++◌, ◌∷◌, [], ◌&&◌, ◌+ℤ◌, ◌*ℤ◌, pos, int_le, if◌then◌else◌, IsTrue, IfOk};
-ghost use Rattle.box_tree.specs.Contents.{IsWithin, IsValid, has_id, tree_of};
+ghost use Rattle.box_tree.specs.Contents.{IsWithin, IsValid, has_id, tree_of, ancestor_count};
 ghost use Rattle.box_tree.specs.Forest.{roots_of};
 ghost use Rattle.point_query.specs.Elements.{elements_from_point, element_from_point, is_inside, padding_corner, span_holds, box_holds, then_root, ends_with};
-ghost use Rattle.point_query.specs.Walk.{fine_point, from_start, admitted_in, ancestor_count, IsNear};
+ghost use Rattle.point_query.specs.Walk.{fine_point, from_start, admitted_in, IsNear};
 
 use box_tree::{Page, Piece, Viewport};
 use fractions::{Ledger, Spot, Steps};

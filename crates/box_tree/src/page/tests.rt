@@ -9,8 +9,10 @@ use fractions::{Blank, Brand};
 use std::process::Abort;
 use std::test::Fail;
 
-// An add of a block, with a box of 100 by 100 units for each corner.
-fn block(alloc: Global, parent: u32, at: u32, corners: &[(i64, i64)]) -> Result<Edit, Fail> {
+mod layouts;
+
+// A box of 100 by 100 units for each corner.
+fn boxes_at(alloc: Global, corners: &[(i64, i64)]) -> Result<PieceList, Fail> {
     let mut pieces = Vec::new(alloc);
     for &(l, t) in corners {
         pieces.push(Piece {
@@ -21,11 +23,16 @@ fn block(alloc: Global, parent: u32, at: u32, corners: &[(i64, i64)]) -> Result<
             h: 100,
         })?;
     }
+    Ok(PieceList(pieces))
+}
+
+// An add of a block, with a box of 100 by 100 units for each corner.
+fn block(alloc: Global, parent: u32, at: u32, corners: &[(i64, i64)]) -> Result<Edit, Fail> {
     Ok(Edit::Add {
         parent,
         at,
         kind: Kind::Block,
-        boxes: PieceList(pieces),
+        boxes: boxes_at(alloc, corners)?,
     })
 }
 

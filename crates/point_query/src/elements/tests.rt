@@ -1,18 +1,13 @@
 ghost use Rattle.std.specs.Prelude.{◌≡◌, ◌<◌};
 
 use super::*;
-use box_tree::{Done, Edit, Kind, PieceList};
+use box_tree::{Edit, Kind, PieceList};
 use fractions::{Blank, Brand};
 use std::process::Abort;
 use std::test::Fail;
 
-// An add of a block at the end of the `at` children of its parent, with at most one box given by l, t, w and h.
-fn block(
-    alloc: Global,
-    parent: u32,
-    at: u32,
-    sides: &[(i64, i64, i64, i64)],
-) -> Result<Edit, Fail> {
+// Boxes by l, t, w and h.
+fn boxes_of(alloc: Global, sides: &[(i64, i64, i64, i64)]) -> Result<PieceList, Fail> {
     let mut pieces = Vec::new(alloc);
     for &(l, t, w, h) in sides {
         pieces.push(Piece {
@@ -23,19 +18,47 @@ fn block(
             h,
         })?;
     }
+    Ok(PieceList(pieces))
+}
+
+// An add of a block at the end of the `at` children of its parent.
+fn block(
+    alloc: Global,
+    parent: u32,
+    at: u32,
+    sides: &[(i64, i64, i64, i64)],
+) -> Result<Edit, Fail> {
     Ok(Edit::Add {
         parent,
         at,
         kind: Kind::Block,
-        boxes: PieceList(pieces),
+        boxes: boxes_of(alloc, sides)?,
     })
 }
 
-// Adds blocks to an engine, and compares the answers at points with those that are wanted.
+// A place of a node that is not to be scrolled.
+fn place(
+    alloc: Global,
+    id: u32,
+    anchor: (i64, i64),
+    sides: &[(i64, i64, i64, i64)],
+) -> Result<Edit, Fail> {
+    Ok(Edit::Place {
+        id,
+        anchor: Spot {
+            x: anchor.0,
+            y: anchor.1,
+        },
+        boxes: boxes_of(alloc, sides)?,
+        max: Spot { x: 0, y: 0 },
+    })
+}
+
+// Edits a new engine, and compares the answers at points with those that are wanted.
 fn compare<L: Ledger>(
     rt: &impl Abort,
     alloc: Global,
-    blocks: &[(u32, u32, &[(i64, i64, i64, i64)])],
+    edits: &[Edit],
     answers: &[(i64, i64, &[u32])],
     blank: Blank,
 ) -> Result<(), Fail>
@@ -45,17 +68,16 @@ fn compare<L: Ledger>(
 {
     let mut steps = Steps::<L>::new(blank);
     let mut engine = Engine::new(alloc, 81_920, 46_080)?;
-    for &(parent, at, sides) in blocks {
-        let edit = block(alloc, parent, at, sides)?;
+    for edit in edits {
         assert!(rt; edit.in_range());
-        assert!(rt; matches!(&engine.edit(&edit, &mut steps), Ok(Done::Node { .. })));
+        assert!(rt; engine.edit(edit, &mut steps).is_ok(), "{edit:?}");
     }
     for &(x, y, wanted) in answers {
         assert!(rt; -100_000 < x && x < 100_000 && -100_000 < y && y < 100_000);
         let ids = hit(alloc, &engine, x, y, &mut steps)?;
-        assert_eq!(rt; ids.as_slice(), wanted);
+        assert_eq!(rt; ids.as_slice(), wanted, "{x} {y}");
         let id = top(alloc, &engine, x, y, &mut steps)?;
-        assert_eq!(rt; id, wanted.first().copied());
+        assert_eq!(rt; id, wanted.first().copied(), "{x} {y}");
     }
     Ok(())
 }
@@ -67,17 +89,19 @@ fn an_empty_page_has_no_element(rt: HostRuntime) -> Result<(), Fail> {
 
 #[test]
 fn boxes_are_half_open_and_the_root_comes_last(rt: HostRuntime) -> Result<(), Fail> {
+    let alloc = rt.alloc();
+    let edits = vec![in alloc;
+        block(alloc, 0, 0, &[(0, 0, 100, 100)])?,
+        block(alloc, 1, 0, &[(10, 10, 40, 40)])?,
+        block(alloc, 1, 1, &[(30, 30, 40, 40)])?,
+        block(alloc, 2, 0, &[(5, 5, 10, 10)])?,
+        block(alloc, 2, 1, &[])?,
+        block(alloc, 5, 0, &[(-10, 0, 4, 4)])?,
+    ]?;
     compare::<Brand>(
         &rt,
-        rt.alloc(),
-        &[
-            (0, 0, &[(0, 0, 100, 100)]),
-            (1, 0, &[(10, 10, 40, 40)]),
-            (1, 1, &[(30, 30, 40, 40)]),
-            (2, 0, &[(5, 5, 10, 10)]),
-            (2, 1, &[]),
-            (5, 0, &[(-10, 0, 4, 4)]),
-        ],
+        alloc,
+        &edits,
         &[
             (35, 35, &[3, 2, 1]),
             (200, 200, &[1]),
@@ -93,6 +117,87 @@ fn boxes_are_half_open_and_the_root_comes_last(rt: HostRuntime) -> Result<(), Fa
             (0, 46_081, &[]),
             (-1, 0, &[]),
             (0, -1, &[]),
+        ],
+        Blank::new(1),
+    )
+}
+
+#[test]
+fn anchors_move_a_node_and_all_below_it(rt: HostRuntime) -> Result<(), Fail> {
+    let alloc = rt.alloc();
+    let mut edits = vec![in alloc;
+        block(alloc, 0, 0, &[(0, 0, 100, 100)])?,
+        block(alloc, 1, 0, &[(0, 0, 10, 10)])?,
+        block(alloc, 2, 0, &[(1, 2, 4, 4)])?,
+        block(alloc, 1, 1, &[])?,
+        block(alloc, 4, 0, &[(0, 0, 3, 3)])?,
+        place(alloc, 2, (50, 0), &[(5, 5, 10, 10)])?,
+        place(alloc, 3, (2, -1), &[(1, 2, 4, 4)])?,
+        place(alloc, 4, (7, 7), &[])?,
+    ]?;
+    compare::<Brand>(
+        &rt,
+        alloc,
+        &edits,
+        &[
+            (56, 6, &[2, 1]),
+            (6, 6, &[1]),
+            (54, 5, &[1]),
+            (55, 5, &[2, 1]),
+            (64, 14, &[2, 1]),
+            (65, 14, &[1]),
+            (57, 6, &[2, 1]),
+            (58, 6, &[3, 2, 1]),
+            (61, 9, &[3, 2, 1]),
+            (62, 9, &[2, 1]),
+            (58, 10, &[2, 1]),
+            (6, 7, &[1]),
+            (7, 7, &[5, 1]),
+            (9, 9, &[5, 1]),
+            (10, 9, &[1]),
+        ],
+        Blank::new(1),
+    )?;
+    edits.push(place(alloc, 1, (10, 20), &[(-4, 0, 100, 100)])?)?;
+    compare::<Brand>(
+        &rt,
+        alloc,
+        &edits,
+        &[
+            (12, 27, &[1]),
+            (13, 27, &[5, 1]),
+            (60, 25, &[1]),
+            (61, 25, &[2, 1]),
+            (63, 26, &[2, 1]),
+            (64, 26, &[3, 2, 1]),
+        ],
+        Blank::new(1),
+    )
+}
+
+#[test]
+fn the_edge_of_a_resized_viewport_is_inside(rt: HostRuntime) -> Result<(), Fail> {
+    let alloc = rt.alloc();
+    let edits = vec![in alloc;
+        Edit::Resize {
+            w: 100,
+            h: 80,
+            max: Spot { x: 0, y: 0 },
+        },
+        block(alloc, 0, 0, &[(0, 0, 100, 80)])?,
+        block(alloc, 1, 0, &[(90, 70, 20, 20)])?,
+    ]?;
+    compare::<Brand>(
+        &rt,
+        alloc,
+        &edits,
+        &[
+            (89, 70, &[1]),
+            (90, 70, &[2, 1]),
+            (100, 80, &[2, 1]),
+            (101, 80, &[]),
+            (100, 81, &[]),
+            (-1, 0, &[]),
         ],
         Blank::new(1),
     )

@@ -4,10 +4,12 @@ use Rattle.std.specs.Prelude.{if◌then◌else◌}
 use Rattle.std.proofs.lemmas.List.{append-nil}
 use Rattle.fractions.specs.declared.rect.Spot.{Spot}
 use Rattle.box_tree.specs.declared.piece.Piece.{Piece}
+use Rattle.box_tree.specs.Contents.{ancestor_count}
+use Rattle.box_tree.proofs.SubtreeLemmas.{few_ancestors, ancestor_count-child}
 use Rattle.point_query.specs.declared.elements.Local.{Local}
 use Rattle.point_query.specs.Elements.{padding_corner, box_holds}
-use Rattle.point_query.specs.Walk.{fine_point, from_start, within, ancestor_count, IsNear}
-use Rattle.point_query.proofs.WalkLemmas.{near-more, few_ancestors, walk-start, walk-step, walk-end, child-there, ancestor_count-child, own_at-seen}
+use Rattle.point_query.specs.Walk.{fine_point, from_start, within, IsNear}
+use Rattle.point_query.proofs.WalkLemmas.{near-more, walk-start, walk-step, walk-end, child-there, own_at-seen}
 use Rattle.point_query.proofs.elements.+admit.Goals as goal
 
 pub counted_from-own-requires : goal.counted_from-own-requires

@@ -2,8 +2,8 @@
 -- children that are left is what is admitted of the node and all below it.
 use Rattle.std.proofs.Common.{◌≡◌, ◌-◌, ◌++◌}
 use Rattle.box_tree.proofs.PlacedLemmas.{trees_from}
-use Rattle.box_tree.specs.Contents.{tree_of}
-use Rattle.point_query.specs.Walk.{admitted_in, below_of, ancestor_count}
+use Rattle.box_tree.specs.Contents.{tree_of, below_of, ancestor_count}
+use Rattle.point_query.specs.Walk.{admitted_in}
 use Rattle.point_query.proofs.elements.+admit.Given as goal
 
 abbrev pub decreases-admit : goal.decreases-admit

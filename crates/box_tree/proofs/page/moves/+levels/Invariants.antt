@@ -3,7 +3,7 @@
 use Rattle.std.proofs.Common.{◌≡◌, ◌-◌, max}
 use Rattle.box_tree.specs.Forest.{height_of}
 use Rattle.box_tree.proofs.PlacedLemmas.{trees_from}
-use Rattle.box_tree.proofs.SubtreeLemmas.{below_of, ancestor_count}
+use Rattle.box_tree.specs.Contents.{below_of, ancestor_count}
 use Rattle.box_tree.proofs.page.moves.+levels.Given as goal
 
 abbrev pub decreases-levels : goal.decreases-levels

@@ -4,7 +4,7 @@ use Rattle.std.proofs.Common.{◌≡◌, ◌-◌, ◌++◌}
 use Rattle.box_tree.specs.Contents.{tree_of}
 use Rattle.box_tree.specs.Forest.{ids_in}
 use Rattle.box_tree.proofs.PlacedLemmas.{trees_from}
-use Rattle.box_tree.proofs.SubtreeLemmas.{below_of, ancestor_count}
+use Rattle.box_tree.specs.Contents.{below_of, ancestor_count}
 use Rattle.box_tree.proofs.page.removes.+push_ids.Given as goal
 
 abbrev pub decreases-push_ids : goal.decreases-push_ids
