@@ -1,4 +1,5 @@
 ghost use Rattle.std.specs.Prelude.{◌≡◌, ◌<◌};
+ghost use Rattle.box_tree.specs.Contents.{IsWithin};
 
 use super::*;
 use box_tree::{Edit, Kind, PieceList};
@@ -54,6 +55,26 @@ fn place(
     })
 }
 
+// Compares the answers at a point: the wanted elements, and the first of them.
+fn compare_at<L: Ledger>(
+    rt: &impl Abort,
+    alloc: Global,
+    engine: &Engine,
+    x: i64,
+    y: i64,
+    wanted: &[u32],
+    steps: &mut Steps<L>,
+) -> Result<(), Fail>
+    requires x { IsWithin 26 x }
+    requires y { IsWithin 26 y }
+{
+    let ids = hit(alloc, engine, x, y, steps)?;
+    assert_eq!(rt; ids.as_slice(), wanted, "{x} {y}");
+    let id = top(alloc, engine, x, y, steps)?;
+    assert_eq!(rt; id, wanted.first().copied(), "{x} {y}");
+    Ok(())
+}
+
 // Edits a new engine, and compares the answers at points with those that are wanted.
 fn compare<L: Ledger>(
     rt: &impl Abort,
@@ -74,10 +95,7 @@ fn compare<L: Ledger>(
     }
     for &(x, y, wanted) in answers {
         assert!(rt; -100_000 < x && x < 100_000 && -100_000 < y && y < 100_000);
-        let ids = hit(alloc, &engine, x, y, &mut steps)?;
-        assert_eq!(rt; ids.as_slice(), wanted, "{x} {y}");
-        let id = top(alloc, &engine, x, y, &mut steps)?;
-        assert_eq!(rt; id, wanted.first().copied(), "{x} {y}");
+        compare_at(rt, alloc, &engine, x, y, wanted, &mut steps)?;
     }
     Ok(())
 }
