@@ -1,6 +1,6 @@
 // A desk with the same answers to all, for tests of what stands above a desk.
 ghost use Rattle.std.specs.Prelude.{◌≡◌, ◌∷◌, [], Some, None, Ok, IfOk, OnOk, OnErr};
-ghost use Rattle.hit_script.specs.Log.{Logs};
+ghost use Rattle.hit_script.specs.Log.{EditEntry, HitEntry, TopEntry, Logs};
 ghost use Rattle.hit_script.specs.Canned.{canned_entry, canned_log, asked_once_more};
 
 use crate::desks::Desk;
@@ -59,6 +59,7 @@ impl Desk for Canned {
     fn edit<L: Ledger>(&mut self, _edit: &Edit, steps: &mut Steps<L>) -> Result<Done, EditFault>
         ensures done { result ≡ Ok Done.Done }
         ensures kept { self.new ≡ asked_once_more self.old Asked.Edit }
+        ensures logged { Logs (canned_log self.old) (canned_log self.new) (EditEntry result) }
         ensures no_step { steps.new ≡ steps.old }
     {
         let _ = steps;
@@ -76,6 +77,7 @@ impl Desk for Canned {
         ensures member { IfOk result (λ ids. ids.items ≡ self.old.member ∷ []) }
         ensures kept { OnOk result (self.new ≡ asked_once_more self.old (Asked.Hit x y)) }
         ensures same { OnErr result (self.new ≡ self.old) }
+        ensures logged { IfOk result (λ ids. Logs (canned_log self.old) (canned_log self.new) (HitEntry x y ids.items)) }
         ensures no_step { steps.new ≡ steps.old }
     {
         let _ = steps;
@@ -93,6 +95,7 @@ impl Desk for Canned {
     ) -> Result<Option<u32>, OutOfMemory>
         ensures member { result ≡ Ok (Some self.old.member) }
         ensures kept { self.new ≡ asked_once_more self.old (Asked.Top x y) }
+        ensures logged { IfOk result (λ id. Logs (canned_log self.old) (canned_log self.new) (TopEntry x y id)) }
         ensures no_step { steps.new ≡ steps.old }
     {
         let _ = steps;
