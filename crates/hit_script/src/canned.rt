@@ -56,13 +56,12 @@ impl Desk for Canned {
 
     ghost log = { canned_log };
 
-    fn edit<L: Ledger>(&mut self, _edit: &Edit, steps: &mut Steps<L>) -> Result<Done, EditFault>
+    fn edit<L: Ledger>(&mut self, _edit: &Edit, _steps: &mut Steps<L>) -> Result<Done, EditFault>
         ensures done { result ≡ Ok Done.Done }
         ensures kept { self.new ≡ asked_once_more self.old Asked.Edit }
         ensures logged { Logs (canned_log self.old) (canned_log self.new) (EditEntry result) }
-        ensures no_step { steps.new ≡ steps.old }
+        ensures no_step { _steps.new ≡ _steps.old }
     {
-        let _ = steps;
         self.keep(Asked::Edit);
         Ok(Done::Done)
     }
@@ -72,15 +71,14 @@ impl Desk for Canned {
         alloc: Global,
         x: i64,
         y: i64,
-        steps: &mut Steps<L>,
+        _steps: &mut Steps<L>,
     ) -> Result<Vec<u32>, OutOfMemory>
         ensures member { IfOk result (λ ids. ids.items ≡ self.old.member ∷ []) }
         ensures kept { OnOk result (self.new ≡ asked_once_more self.old (Asked.Hit x y)) }
         ensures same { OnErr result (self.new ≡ self.old) }
         ensures logged { IfOk result (λ ids. Logs (canned_log self.old) (canned_log self.new) (HitEntry x y ids.items)) }
-        ensures no_step { steps.new ≡ steps.old }
+        ensures no_step { _steps.new ≡ _steps.old }
     {
-        let _ = steps;
         let ids = Vec::from_slice(alloc, &[self.member])?;
         self.keep(Asked::Hit { x, y });
         Ok(ids)
@@ -91,14 +89,13 @@ impl Desk for Canned {
         _alloc: Global,
         x: i64,
         y: i64,
-        steps: &mut Steps<L>,
+        _steps: &mut Steps<L>,
     ) -> Result<Option<u32>, OutOfMemory>
         ensures member { result ≡ Ok (Some self.old.member) }
         ensures kept { self.new ≡ asked_once_more self.old (Asked.Top x y) }
         ensures logged { IfOk result (λ id. Logs (canned_log self.old) (canned_log self.new) (TopEntry x y id)) }
-        ensures no_step { steps.new ≡ steps.old }
+        ensures no_step { _steps.new ≡ _steps.old }
     {
-        let _ = steps;
         self.keep(Asked::Top { x, y });
         Ok(Some(self.member))
     }
