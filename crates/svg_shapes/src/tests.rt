@@ -2,7 +2,7 @@ ghost use Rattle.std.specs.Prelude.{◌≡◌, IsTrue};
 ghost use Rattle.std.specs.List.{All};
 ghost use Rattle.poly_shapes.specs.Segments.{IsPlaced};
 ghost use Rattle.svg_shapes.specs.declared.shape.Shape.TheVariants.{Rect};
-ghost use Rattle.svg_shapes.specs.Measures.{IsLength, IsBoxMeasured};
+ghost use Rattle.svg_shapes.specs.Measures.{IsPlace, IsLength, IsBoxMeasured};
 ghost use Rattle.svg_shapes.specs.Shapes.{IsMeasured};
 
 use super::*;
@@ -635,12 +635,34 @@ const BOXES: [FineBox; 3] = [
     },
 ];
 
+fn is_place(z: i64) -> bool
+    ensures { IsTrue result → IsPlace z }
+{
+    z.unsigned_abs() <= 1 << 26
+}
+
+fn is_length(z: i64) -> bool
+    ensures { IsTrue result → IsLength z }
+{
+    0 <= z && z <= 1 << 26
+}
+
+fn has_place(b: FineBox) -> bool
+    ensures { IsTrue result → (IsPlace b.x × IsPlace b.y) }
+{
+    is_place(b.x) && is_place(b.y)
+}
+
+fn has_sides(b: FineBox) -> bool
+    ensures { IsTrue result → (IsLength b.w × IsLength b.h) }
+{
+    is_length(b.w) && is_length(b.h)
+}
+
 fn is_measured(b: FineBox) -> bool
     ensures { IsTrue result → IsBoxMeasured b }
 {
-    let places = b.x.unsigned_abs() <= 1 << 26 && b.y.unsigned_abs() <= 1 << 26;
-    let sides = 0 <= b.w && b.w <= 1 << 26 && 0 <= b.h && b.h <= 1 << 26;
-    places && sides
+    has_place(b) && has_sides(b)
 }
 
 fn are_measured(boxes: &[FineBox]) -> bool
