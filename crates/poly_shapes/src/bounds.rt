@@ -1,4 +1,4 @@
-ghost use Rattle.std.specs.Prelude.{◌≡◌, ◌↔◌, ◌^◌, unsigned_abs, ◌≤ℤ◌, ◌+ℤ◌, ◌-ℤ◌, pos, fold, IsTrue, IsSomeAnd};
+ghost use Rattle.std.specs.Prelude.{◌≡◌, ◌↔◌, ◌^◌, unsigned_abs, ◌≤ℤ◌, ◌+ℤ◌, ◌-ℤ◌, pos, fold, [], IsTrue, IsNone, IsSomeAnd};
 ghost use Rattle.poly_shapes.specs.Extent.{around, widened, bounds_of, Holds, moved_out, AreSidesWithin};
 
 use crate::point::{Bounds, Point};
@@ -15,7 +15,7 @@ impl Bounds {
         }
     }
 
-    /// The least rectangle that holds this one and the points.
+    /// The least closed rectangle that holds this one and the points.
     pub fn widened_by(self, points: &[Point]) -> Bounds
         ensures { result ≡ fold widened self points.now }
     {
@@ -53,9 +53,10 @@ impl Bounds {
     }
 }
 
-/// The least closed rectangle that holds the points; none without a point.
+/// The least closed rectangle that holds the points, in their units; None exactly where there is no point.
 pub fn bounds_of(points: &[Point]) -> Option<Bounds>
-    ensures { result ≡ bounds_of points.now }
+    ensures value { result ≡ bounds_of points.now }
+    ensures absent { IsNone result ↔ (points.now ≡ []) }
 {
     match points {
         [] => None,

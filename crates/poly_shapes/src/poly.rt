@@ -98,8 +98,8 @@ impl Poly {
         winding_of(&self.points, &self.subs, spot(x, y))
     }
 
-    /// How many edges of the outline, each subpath closed, the ray to the right from a point within 2^28 crosses. SVG 2,
-    /// "The 'fill-rule' property".
+    /// How many edges of the outline, each subpath closed, the ray to the right from a point within 2^28 crosses. SVG
+    /// 2, "The 'fill-rule' property".
     pub fn crossings(&self, x: i128, y: i128) -> u32
         requires x { unsigned_abs x ≤ 2 ^ 28 }
         requires y { unsigned_abs y ≤ 2 ^ 28 }
@@ -140,9 +140,9 @@ impl Poly {
         }
     }
 
-    /// Whether the stroke of a width from 0 to 2^26, in the points' units, holds a point within 2^28: some segment's body,
-    /// some join or some end does. Joins are round. A point that it holds lies within the bounds, moved out by the width.
-    /// SVG 2, "Stroke properties".
+    /// Whether the stroke of a width from 0 to 2^26, in the points' units, holds a point within 2^28: some segment's
+    /// body, some join or some end does. Joins are round. A point that it holds lies within the bounds, moved out by
+    /// the width. SVG 2, "Stroke properties".
     pub fn strokes(&self, width: i64, cap: Cap, x: i128, y: i128) -> bool
         requires width_above { pos 0 ≤ℤ width }
         requires width_below { width ≤ℤ pos (2 ^ 26) }
@@ -155,8 +155,8 @@ impl Poly {
         width > 0 && self.is_stroked(Pen { width, cap }, spot(x, y))
     }
 
-    /// Whether the stroke of a width from 0 to 2^26, in the points' units, holds a point, which may lie anywhere. SVG 2,
-    /// "Stroke properties".
+    /// Whether the stroke of a width from 0 to 2^26, in the points' units, holds a point, which may lie anywhere. SVG
+    /// 2, "Stroke properties".
     pub fn is_point_in_stroke(&self, width: i64, cap: Cap, x: i128, y: i128) -> bool
         requires width_above { pos 0 ≤ℤ width }
         requires width_below { width ≤ℤ pos (2 ^ 26) }

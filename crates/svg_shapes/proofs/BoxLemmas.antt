@@ -38,16 +38,26 @@ abbrev IsCornerNear : Point → Type 0
 IsCornerNear p = IsPointWithin (2 ^ 27) p
 
 corners-within : (box : FineBox) → IsBoxMeasured box → All IsCornerNear (corners box)
-corners-within box m zero d h = record { across = omega (arith, ints, m.x.within); down = omega (arith, ints, m.y.within) }
-corners-within box m (suc zero) d h = record { across = omega (arith, ints, m.x.within, m.w.at_least, m.w.at_most); down = omega (arith, ints, m.y.within) }
+corners-within box m zero d h = record {
+  across = omega (arith, ints, m.x.within);
+  down = omega (arith, ints, m.y.within);
+}
+corners-within box m (suc zero) d h = record {
+  across = omega (arith, ints, m.x.within, m.w.at_least, m.w.at_most);
+  down = omega (arith, ints, m.y.within);
+}
 corners-within box m (suc (suc zero)) d h = record {
   across = omega (arith, ints, m.x.within, m.w.at_least, m.w.at_most);
   down = omega (arith, ints, m.y.within, m.h.at_least, m.h.at_most);
 }
-corners-within box m (suc (suc (suc zero))) d h = record { across = omega (arith, ints, m.x.within); down = omega (arith, ints, m.y.within, m.h.at_least, m.h.at_most) }
+corners-within box m (suc (suc (suc zero))) d h = record {
+  across = omega (arith, ints, m.x.within);
+  down = omega (arith, ints, m.y.within, m.h.at_least, m.h.at_most);
+}
 corners-within box m (suc (suc (suc (suc k)))) d h = absurd (omega arith)
 
-pub all-corners-within : (boxes : List FineBox) → All IsBoxMeasured boxes → All (IsPointWithin (2 ^ 27)) (flat_map corners boxes)
+pub all-corners-within : (boxes : List FineBox) → All IsBoxMeasured boxes
+    → All (IsPointWithin (2 ^ 27)) (flat_map corners boxes)
 all-corners-within [] all = λ k d h. absurd (omega arith)
 all-corners-within (box ∷ boxes) all =
     All-append IsCornerNear (corners box) (flat_map corners boxes)

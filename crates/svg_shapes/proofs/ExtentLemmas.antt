@@ -62,7 +62,8 @@ disabled (Boxes []) m e = refl
 disabled (Boxes (box ∷ boxes)) m e = absurd (let no : ⊥ = cc in no)
 
 -- bounds that are moved out stay near
-pub moved-near : (b : Bounds) (width : ℕ) → width ≤ 2 ^ 26 → AreSidesWithin (2 ^ 27) b → AreSidesWithin (2 ^ 28) (moved_out width b)
+pub moved-near : (b : Bounds) (width : ℕ) → width ≤ 2 ^ 26 → AreSidesWithin (2 ^ 27) b
+    → AreSidesWithin (2 ^ 28) (moved_out width b)
 moved-near b width small near = record {
   left = omega (arith, ints, near.left);
   top = omega (arith, ints, near.top);

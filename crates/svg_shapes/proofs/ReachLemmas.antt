@@ -1,6 +1,6 @@
--- How far a shape reaches: the bounds of its base points, moved out by a stroke's width, hold every point that the shape or
--- its stroke holds. Each family has a lemma about the rectangle that holds its base points; for paths the laws of
--- polygons say it.
+-- How far a shape reaches: the bounds of its base points, moved out by a stroke's width, hold every point that the
+-- shape or its stroke holds. Each family has a lemma about the rectangle that holds its base points; for paths the
+-- laws of polygons say it.
 use Rattle.std.proofs.Common.{◌≡◌, ℕ, zero, suc, ◌<◌, ◌≤◌, ◌⊎◌, inl, inr, ℤ, pos, ◌+ℤ◌, ◌-ℤ◌, ◌<ℤ◌, ◌≤ℤ◌, unsigned_abs, List, [], ◌∷◌, length, get_or, Option, None, Some, IfSome, IsSomeAnd, IsTrue, arith, refl, sym, subst}
 use Rattle.std.specs.List.{All, flat_map}
 use Rattle.std.proofs.lemmas.Int.{ints}
@@ -43,7 +43,8 @@ BoundsLaw = (points : List Point) → IfSome (bounds_of points) (λ b. All (λ p
 abbrev pub IsReached : (width : ℕ) → (x y : ℤ) → Option Bounds → Type 0
 IsReached width x y found = IsSomeAnd found (λ b. Holds (moved_out width b) x y)
 
-widened_reach : (width : ℕ) (x y : ℤ) (found : Option Bounds) → IsSomeAnd found (λ b. Holds b x y) → IsReached width x y found
+widened_reach : (width : ℕ) (x y : ℤ) (found : Option Bounds)
+    → IsSomeAnd found (λ b. Holds b x y) → IsReached width x y found
 widened_reach width x y None held = held
 widened_reach width x y (Some b) held = record {
   left = omega (arith, ints, held.left);
@@ -90,7 +91,7 @@ rect-interior law box rx ry width x y held =
 rect-perimeter : BoundsLaw → (box : FineBox) (rx ry : ℤ) (width : ℕ) (x y : ℤ) → OnRect box rx ry width x y
     → IsReached width x y (bounds_of (rect_points box))
 rect-perimeter law box rx ry width x y held =
-    let inside = held.within.between in
+    let inside = held.band.within.between in
     let hold = law (corners box) in
     subst (λ (points : List Point). IsReached width x y (bounds_of points)) (sym (rect_points-drawn box held.wide held.high))
     (span-reach _ box width x y (hold 0 none (omega arith)) (hold 2 none (omega arith))
@@ -123,7 +124,8 @@ held-down e x y held =
     (λ far. too_far_down (distance (twice x) e.cx) _ _ _ far (size-positive e.rx held.wide) held.inside)
 
 -- one coordinate of a point no further than the radius and half the width, in half fine units, from the centre
-side-reach : (centre radius : ℤ) (extent : ℤ) (width : ℕ) (at : ℤ) → pos 0 <ℤ twice radius → extent ≤ℤ (twice radius +ℤ pos width)
+side-reach : (centre radius : ℤ) (extent : ℤ) (width : ℕ) (at : ℤ) → pos 0 <ℤ twice radius
+    → extent ≤ℤ (twice radius +ℤ pos width)
     → distance (twice at) (twice centre) ≤ unsigned_abs extent → pos 0 <ℤ extent
     → (((centre -ℤ radius) -ℤ pos width) ≤ℤ at) × (at ≤ℤ ((centre +ℤ radius) +ℤ pos width))
 side-reach centre radius extent width at positive most near above =
@@ -208,24 +210,29 @@ boxes-reach law (first ∷ boxes) width x y held =
 
 -- ---- every shape
 
-pub interior-reach : FillLaw → BoundsLaw → (shape : Shape) (rule : FillRule) (width : ℕ) (x y : ℤ) → Interior shape rule x y
-    → IsReached width x y (bounds_of (base_points shape))
+pub interior-reach : FillLaw → BoundsLaw → (shape : Shape) (rule : FillRule) (width : ℕ) (x y : ℤ)
+    → Interior shape rule x y → IsReached width x y (bounds_of (base_points shape))
 interior-reach fill hold (Path outline) rule width x y held = widened_reach width x y _ (fill rule outline x y held)
 interior-reach fill hold (Polygon outline) rule width x y held = widened_reach width x y _ (fill rule outline x y held)
 interior-reach fill hold (Polyline outline) rule width x y held = widened_reach width x y _ (fill rule outline x y held)
 interior-reach fill hold (Line x1 y1 x2 y2) rule width x y held = absurd held
-interior-reach fill hold (Rect l t w h rx ry) rule width x y held = rect-interior hold (box_of l t w h) rx ry width x y held
+interior-reach fill hold (Rect l t w h rx ry) rule width x y held =
+    rect-interior hold (box_of l t w h) rx ry width x y held
 interior-reach fill hold (Circle cx cy r) rule width x y held = ellipse-interior hold cx cy r r width x y held
-interior-reach fill hold (EllipseOf cx cy rx ry) rule width x y held = ellipse-interior hold cx cy rx ry width x y held
+interior-reach fill hold (EllipseOf cx cy rx ry) rule width x y held =
+    ellipse-interior hold cx cy rx ry width x y held
 interior-reach fill hold (Boxes boxes) rule width x y held = boxes-reach hold boxes width x y held
 
-pub perimeter-reach : StrokeLaw → BoundsLaw → (shape : Shape) (width : ℕ) (ends : Cap) (x y : ℤ) → Perimeter shape width ends x y
-    → IsReached width x y (bounds_of (base_points shape))
+pub perimeter-reach : StrokeLaw → BoundsLaw → (shape : Shape) (width : ℕ) (ends : Cap) (x y : ℤ)
+    → Perimeter shape width ends x y → IsReached width x y (bounds_of (base_points shape))
 perimeter-reach stroke hold (Path outline) width ends x y held = stroke outline width ends x y held
 perimeter-reach stroke hold (Polygon outline) width ends x y held = stroke outline width ends x y held
 perimeter-reach stroke hold (Polyline outline) width ends x y held = stroke outline width ends x y held
-perimeter-reach stroke hold (Line x1 y1 x2 y2) width ends x y held = stroke (line (point x1 y1) (point x2 y2)) width ends x y held
-perimeter-reach stroke hold (Rect l t w h rx ry) width ends x y held = rect-perimeter hold (box_of l t w h) rx ry width x y held
+perimeter-reach stroke hold (Line x1 y1 x2 y2) width ends x y held =
+    stroke (line (point x1 y1) (point x2 y2)) width ends x y held
+perimeter-reach stroke hold (Rect l t w h rx ry) width ends x y held =
+    rect-perimeter hold (box_of l t w h) rx ry width x y held
 perimeter-reach stroke hold (Circle cx cy r) width ends x y held = ellipse-perimeter hold cx cy r r width x y held
-perimeter-reach stroke hold (EllipseOf cx cy rx ry) width ends x y held = ellipse-perimeter hold cx cy rx ry width x y held
+perimeter-reach stroke hold (EllipseOf cx cy rx ry) width ends x y held =
+    ellipse-perimeter hold cx cy rx ry width x y held
 perimeter-reach stroke hold (Boxes boxes) width ends x y held = absurd held

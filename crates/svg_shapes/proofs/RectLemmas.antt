@@ -6,7 +6,7 @@ use Rattle.corner_shapes.specs.Radii.{IsLengthWithin}
 use Rattle.corner_shapes.specs.Curve.{IsMeasured}
 use Rattle.svg_shapes.specs.declared.boxes.FineBox.{FineBox}
 use Rattle.svg_shapes.specs.declared.rect.RoundRect.{RoundRect}
-use Rattle.svg_shapes.specs.Rects.{IsRectWithin, rect_of, rounded, grown_rect, shrunk_rect, RectHolds, InRect, OnRect}
+use Rattle.svg_shapes.specs.Rects.{IsRectWithin, rect_of, rounded, grown_rect, shrunk_rect, RectHolds, RectBandHolds, InRect, OnRect}
 
 -- rects with the same edges and radii are the same
 pub same_rect : {l l' t t' r r' b b' rx rx' ry ry' : ℤ} → l ≡ l' → t ≡ t' → r ≡ r' → b ≡ b' → rx ≡ rx' → ry ≡ ry'
@@ -42,16 +42,16 @@ rounded-measured rect within =
 pub in_band-by : (rect grown shrunk : RoundRect) (width : ℕ) (x y : ℤ) (r : Bool)
     → grown ≡ grown_rect width rect → shrunk ≡ shrunk_rect width rect
     → RectHolds grown x y → IsTrue r ↔ RectHolds shrunk x y
-    → IsTrue (not r) ↔ (RectHolds (grown_rect width rect) x y × (RectHolds (shrunk_rect width rect) x y → ⊥))
+    → IsTrue (not r) ↔ RectBandHolds width rect x y
 in_band-by rect grown shrunk width x y true outer inner within tests = (
   λ t. let no : ⊥ = cc in absurd no,
-  λ h. absurd (h.1 (subst (λ (s : RoundRect). RectHolds s x y) inner (tests.0 refl))),
+  λ h. absurd (h.beyond (subst (λ (s : RoundRect). RectHolds s x y) inner (tests.0 refl))),
 )
 in_band-by rect grown shrunk width x y false outer inner within tests = (
-  λ t. (
-    subst (λ (g : RoundRect). RectHolds g x y) outer within,
-    λ held. let t = tests.1 (subst (λ (s : RoundRect). RectHolds s x y) (sym inner) held) in let no : ⊥ = cc in no,
-  ),
+  λ t. record {
+    within = subst (λ (g : RoundRect). RectHolds g x y) outer within;
+    beyond = λ held. let t = tests.1 (subst (λ (s : RoundRect). RectHolds s x y) (sym inner) held) in let no : ⊥ = cc in no;
+  },
   λ h. refl,
 )
 
@@ -65,11 +65,9 @@ in_rect-by box rx ry rect x y r wide high made tests = (
 
 pub on_rect-by : (box : FineBox) (rx ry : ℤ) (rect : RoundRect) (width : ℕ) (x y : ℤ) (r : Bool)
     → pos 0 <ℤ box.w → pos 0 <ℤ box.h → 0 < width → rect ≡ rect_of box rx ry
-    → IsTrue r ↔ (RectHolds (grown_rect width rect) x y × (RectHolds (shrunk_rect width rect) x y → ⊥))
-    → IsTrue r ↔ OnRect box rx ry width x y
+    → IsTrue r ↔ RectBandHolds width rect x y → IsTrue r ↔ OnRect box rx ry width x y
 on_rect-by box rx ry rect width x y r wide high stroked made tests =
-    let B : RoundRect → Type 0 = λ v. RectHolds (grown_rect width v) x y × (RectHolds (shrunk_rect width v) x y → ⊥) in (
-      λ t. let band = subst B made (tests.0 t) in
-          record { wide = wide; high = high; stroked = stroked; within = band.0; beyond = band.1 },
-      λ h. tests.1 (subst B (sym made) (h.within, h.beyond)),
+    let B : RoundRect → Type 0 = λ v. RectBandHolds width v x y in (
+      λ t. record { wide = wide; high = high; stroked = stroked; band = subst B made (tests.0 t) },
+      λ h. tests.1 (subst B (sym made) h.band),
     )

@@ -29,7 +29,8 @@ pub record InEllipse (e : Ellipse) (x y : ℤ) : Type 0 where
   pub high : pos 0 <ℤ e.ry
   pub inside : EllipseHolds e.cx e.cy (record { x = e.rx; y = e.ry }) (twice x) (twice y)
 
--- the band of its stroke: what the grown ellipse holds and the shrunk one doesn't; with width 0 there is none
+-- the perimeter of an ellipse, which is the band of its stroke: what the grown ellipse holds and the shrunk one
+-- doesn't; with width 0 there is none
 pub record OnEllipse (e : Ellipse) (width : ℕ) (x y : ℤ) : Type 0 where
   pub wide : pos 0 <ℤ e.rx
   pub high : pos 0 <ℤ e.ry

@@ -1,5 +1,5 @@
--- SVG 2, "The 'rect' element" and "The 'rx' and 'ry' properties": a rectangle with rounded corners. It holds its left and
--- top edges and not its right and bottom ones, the curves of its corners are closed.
+-- SVG 2, "The 'rect' element" and "The 'rx' and 'ry' properties": a rectangle with rounded corners. It holds its left
+-- and top edges and not its right and bottom ones, the curves of its corners are closed.
 use Rattle.std.specs.Prelude.{ℕ, ◌<◌, ◌≤◌, unsigned_abs, ℤ, pos, ◌+ℤ◌, ◌-ℤ◌, ◌<ℤ◌, int_lt, ◌&&◌, if◌then◌else◌, [], ◌∷◌}
 use Rattle.std.specs.Int.{int_min, int_max}
 use Rattle.corner_shapes.specs.declared.rounded.Rounded.{Rounded}
@@ -18,8 +18,8 @@ pub record IsRectWithin (edge radius : ℕ) (rect : RoundRect) : Type 0 where
   pub rx : IsLengthWithin radius rect.rx
   pub ry : IsLengthWithin radius rect.ry
 
--- the used radius along a side, in half fine units: no more than half the side, and 0 where this radius or that along the
--- other side is 0
+-- the used radius along a side, in half fine units: no more than half the side, and 0 where this radius or that along
+-- the other side is 0
 abbrev pub used_radius : (side own other : ℤ) → ℤ
 used_radius side own other = if int_lt (pos 0) own && int_lt (pos 0) other then int_min (twice own) side else pos 0
 
@@ -44,8 +44,8 @@ rounded rect = record {
   corners = record { r = rect.rx ∷ rect.ry ∷ rect.rx ∷ rect.ry ∷ rect.rx ∷ rect.ry ∷ rect.rx ∷ rect.ry ∷ [] };
 }
 
--- the rect grown by half a stroke's width, which is the width in half fine units: each side moved out and each radius more
--- by it
+-- the rect grown by half a stroke's width, which is the width in half fine units: each side moved out and each radius
+-- more by it
 abbrev pub grown_rect : (width : ℕ) → RoundRect → RoundRect
 grown_rect width rect = record {
   l = rect.l -ℤ pos width;
@@ -78,10 +78,14 @@ pub record InRect (box : FineBox) (rx ry : ℤ) (x y : ℤ) : Type 0 where
   pub high : pos 0 <ℤ box.h
   pub inside : RectHolds (rect_of box rx ry) x y
 
--- the band of its stroke: what the grown rect holds and the shrunk one doesn't; with width 0 there is none
+-- the band of a stroke round a rect: what the grown rect holds and the shrunk one doesn't
+pub record RectBandHolds (width : ℕ) (rect : RoundRect) (x y : ℤ) : Type 0 where
+  pub within : RectHolds (grown_rect width rect) x y
+  pub beyond : RectHolds (shrunk_rect width rect) x y → ⊥
+
+-- the perimeter of a rect; with width 0 there is none
 pub record OnRect (box : FineBox) (rx ry : ℤ) (width : ℕ) (x y : ℤ) : Type 0 where
   pub wide : pos 0 <ℤ box.w
   pub high : pos 0 <ℤ box.h
   pub stroked : 0 < width
-  pub within : RectHolds (grown_rect width (rect_of box rx ry)) x y
-  pub beyond : RectHolds (shrunk_rect width (rect_of box rx ry)) x y → ⊥
+  pub band : RectBandHolds width (rect_of box rx ry) x y

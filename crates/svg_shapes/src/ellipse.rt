@@ -99,8 +99,8 @@ fn distance(at: i128, centre: i64) -> u128
     (2 * at - i128::from(centre)).unsigned_abs()
 }
 
-/// Whether an ellipse with these radii holds a point so far from its centre: one that is further off than a radius, across
-/// or down, is not tested further.
+/// Whether an ellipse with these radii holds a point so far from its centre: one that is further off than a radius,
+/// across or down, is not tested further.
 fn is_within_ellipse(across: u128, down: u128, rx: u64, ry: u64) -> bool
     requires rx_above { 0 < rx }
     requires ry_above { 0 < ry }

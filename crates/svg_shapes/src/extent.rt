@@ -1,7 +1,6 @@
-ghost use Rattle.std.specs.Prelude.{◌≡◌, [], ◌∷◌, ◌^◌, ◌≤◌, ◌+ℤ◌, unsigned_abs, fold, IfSome};
+ghost use Rattle.std.specs.Prelude.{◌≡◌, [], ◌∷◌, ◌^◌, fold, IfSome};
 ghost use Rattle.std.specs.List.{All, flat_map};
 ghost use Rattle.poly_shapes.specs.Extent.{widened, bounds_of, AreSidesWithin, IsPointWithin};
-ghost use Rattle.poly_shapes.specs.Segments.{IsPlaced};
 ghost use Rattle.svg_shapes.specs.Measures.{IsBoxMeasured};
 ghost use Rattle.svg_shapes.specs.Shapes.{IsEllipseMeasured, IsLinePlaced, corners, rect_points, ellipse_points, line_points};
 

@@ -1,6 +1,6 @@
-ghost use Rattle.std.specs.Prelude.{◌≡◌, ◌↔◌, ◌^◌, ◌<◌, ◌≤◌, unsigned_abs, IsTrue};
+ghost use Rattle.std.specs.Prelude.{◌≡◌, ◌↔◌, ◌^◌, ◌<◌, unsigned_abs, IsTrue};
 ghost use Rattle.svg_shapes.specs.Measures.{IsLength, IsBoxMeasured};
-ghost use Rattle.svg_shapes.specs.Rects.{IsRectWithin, used_radius, rect_of, rounded, grown_rect, shrunk_rect, RectHolds, InRect, OnRect};
+ghost use Rattle.svg_shapes.specs.Rects.{IsRectWithin, used_radius, rect_of, rounded, grown_rect, shrunk_rect, RectHolds, RectBandHolds, InRect, OnRect};
 
 use crate::boxes::FineBox;
 use corner_shapes::{Corners, Rounded};
@@ -82,17 +82,6 @@ impl RoundRect {
         }
     }
 
-    /// Whether the rectangle grown by half a stroke's width holds a point, and the one shrunk by it doesn't.
-    fn has_in_band(self, width: i64, x: i128, y: i128) -> bool
-        requires rect { IsRectWithin (2 ^ 28) (2 ^ 26) self }
-        requires width { IsLength width }
-        requires x { unsigned_abs x < 2 ^ 123 }
-        requires y { unsigned_abs y < 2 ^ 123 }
-        ensures { IsTrue result ↔ RectHolds (grown_rect (unsigned_abs width) self) x y × (RectHolds (shrunk_rect (unsigned_abs width) self) x y → ⊥) }
-    {
-        self.grown(width).holds(x, y) && !self.shrunk(width).holds(x, y)
-    }
-
     /// Whether the rectangle holds a point, which is given in fine units.
     fn holds(self, x: i128, y: i128) -> bool
         requires rect { IsRectWithin (2 ^ 29) (2 ^ 27) self }
@@ -101,6 +90,17 @@ impl RoundRect {
         ensures { IsTrue result ↔ RectHolds self x y }
     {
         self.rounded().holds(2 * x, 2 * y)
+    }
+
+    /// Whether the rectangle grown by half a stroke's width holds a point, and the one shrunk by it doesn't.
+    fn has_in_band(self, width: i64, x: i128, y: i128) -> bool
+        requires rect { IsRectWithin (2 ^ 28) (2 ^ 26) self }
+        requires width { IsLength width }
+        requires x { unsigned_abs x < 2 ^ 123 }
+        requires y { unsigned_abs y < 2 ^ 123 }
+        ensures { IsTrue result ↔ RectBandHolds (unsigned_abs width) self x y }
+    {
+        self.grown(width).holds(x, y) && !self.shrunk(width).holds(x, y)
     }
 }
 

@@ -1,4 +1,4 @@
-ghost use Rattle.std.specs.Prelude.{◌≡◌, ◌↔◌, ℕ, ℤ, ◌^◌, ◌<◌, unsigned_abs, IsTrue, IsNone, IfOk, IfSome, IsSomeAnd};
+ghost use Rattle.std.specs.Prelude.{◌≡◌, ◌↔◌, ℤ, ◌^◌, ◌<◌, unsigned_abs, IsTrue, IsNone, IfOk, IfSome, IsSomeAnd};
 ghost use Rattle.poly_shapes.specs.declared.point.Cap.{Cap};
 ghost use Rattle.poly_shapes.specs.declared.point.FillRule.{FillRule};
 ghost use Rattle.poly_shapes.specs.Extent.{Holds, bounds_of, AreSidesWithin};
@@ -90,9 +90,9 @@ impl Shape {
         }
     }
 
-    /// Whether the interior holds a point below 2^123 in size, in fine units: the fill by a rule of a path, a polygon or a
-    /// polyline, the inside of a rect, a circle or an ellipse, some box. A line has none, nor has a shape that a side or a
-    /// radius of 0 disables. SVG 2, "Painting: Filling, Stroking and Marker Symbols".
+    /// Whether the interior holds a point below 2^123 in size, in fine units: the fill by a rule of a path, a polygon
+    /// or a polyline, the inside of a rect, a circle or an ellipse, some box. A line has none, nor has a shape that a
+    /// side or a radius of 0 disables. SVG 2, "Painting: Filling, Stroking and Marker Symbols".
     pub fn interior(&self, rule: FillRule, x: i128, y: i128) -> bool
         requires shape { IsMeasured self.now }
         requires x { unsigned_abs x < 2 ^ 123 }
@@ -118,9 +118,10 @@ impl Shape {
         }
     }
 
-    /// Whether a stroke with a width from 0 to 2^26 fine units holds a point below 2^123 in size: the stroke of a path, a
-    /// polygon, a polyline or a line, the band of a rect, a circle or an ellipse. Boxes have none, nor has a shape that a
-    /// side or a radius of 0 disables, nor a width of 0. SVG 2, "Painting: Filling, Stroking and Marker Symbols".
+    /// Whether a stroke with a width from 0 to 2^26 fine units holds a point below 2^123 in size: the stroke of a
+    /// path, a polygon, a polyline or a line, the band of a rect, a circle or an ellipse. Boxes have none, nor has a
+    /// shape that a side or a radius of 0 disables, nor a width of 0. SVG 2, "Painting: Filling, Stroking and Marker
+    /// Symbols".
     pub fn perimeter(&self, width: i64, cap: Cap, x: i128, y: i128) -> bool
         requires shape { IsMeasured self.now }
         requires width { IsLength width }
@@ -156,9 +157,9 @@ impl Shape {
         }
     }
 
-    /// The least closed rectangle of the shape's points, corners or opposite corners, in fine units, with each side moved
-    /// out by a stroke's width from 0 to 2^26; None exactly where the shape has no point, no box, or a size that disables
-    /// it. It holds every point that the interior holds, or the perimeter at that width.
+    /// The least closed rectangle of the shape's points, corners or opposite corners, in fine units, with each side
+    /// moved out by a stroke's width from 0 to 2^26; None exactly where the shape has no point, no box, or a size
+    /// that disables it. It holds every point that the interior holds, or the perimeter at that width.
     pub fn bounds(&self, width: i64) -> Option<Bounds>
         requires shape { IsMeasured self.now }
         requires width { IsLength width }

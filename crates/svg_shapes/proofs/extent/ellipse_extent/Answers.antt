@@ -15,4 +15,5 @@ returns-clause-value c =
     let fits_r : FitsSigned w64 (c.args.cx +ℤ c.args.rx) = search rules in
     let fits_b : FitsSigned w64 (c.args.cy +ℤ c.args.ry) = search rules in
     let made = simp to_z-of_z at c.extent_of_two.ensures.value in
-    made ∙ ap bounds_of (sym (ellipse_points-drawn c.args.cx c.args.cy c.args.rx c.args.ry (omega (arith, ints)) (omega (arith, ints))))
+    made ∙ ap bounds_of (sym
+    (ellipse_points-drawn c.args.cx c.args.cy c.args.rx c.args.ry (omega (arith, ints)) (omega (arith, ints))))

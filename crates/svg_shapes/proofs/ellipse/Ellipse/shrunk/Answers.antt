@@ -4,4 +4,5 @@ use Rattle.svg_shapes.proofs.EllipseLemmas.{same_ellipse}
 use Rattle.svg_shapes.proofs.ellipse.Ellipse.shrunk.Goals as goal
 
 pub returns-clause-value : goal.returns-clause-value
-returns-clause-value c = same_ellipse (omega (arith, ints)) (omega (arith, ints)) (omega (arith, ints)) (omega (arith, ints))
+returns-clause-value c =
+    same_ellipse (omega (arith, ints)) (omega (arith, ints)) (omega (arith, ints)) (omega (arith, ints))

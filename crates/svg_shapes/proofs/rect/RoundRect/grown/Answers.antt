@@ -5,7 +5,8 @@ use Rattle.svg_shapes.proofs.rect.RoundRect.grown.Goals as goal
 
 pub returns-clause-value : goal.returns-clause-value
 returns-clause-value c =
-    same_rect (omega (arith, ints)) (omega (arith, ints)) (omega (arith, ints)) (omega (arith, ints)) (omega (arith, ints)) (omega (arith, ints))
+    same_rect (omega (arith, ints)) (omega (arith, ints)) (omega (arith, ints)) (omega (arith, ints))
+    (omega (arith, ints)) (omega (arith, ints))
 
 pub returns-clause-within : goal.returns-clause-within
 returns-clause-within c = record {

@@ -38,5 +38,5 @@ returns-else-holds c =
     let outer = simp to_z-of_z at c.grown.ensures.value in
     let tests = simp to_z-of_z at c.holds.ensures in (
       λ t. let no : ⊥ = cc in absurd no,
-      λ h. tests.1 (subst (λ (g : RoundRect). RectHolds g c.args.x c.args.y) (sym outer) h.0),
+      λ h. tests.1 (subst (λ (g : RoundRect). RectHolds g c.args.x c.args.y) (sym outer) h.within),
     )

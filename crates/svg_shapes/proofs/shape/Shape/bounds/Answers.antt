@@ -12,7 +12,8 @@ returns-in-Some-clause-interior c = λ rule x y held.
     let fits_width : FitsSigned w64 c.args.width = c.ranges.width in
     let reached = interior-reach c.no_fill_reaches_out_of_the_bounds.ensures c.bounds_hold_their_points.ensures
     c.args.self.now rule width x y held in
-    let here : IsReached width x y (Some c.in-Some.extent) = subst (IsReached width x y) (sym c.extent.ensures.value ∙ c.in-Some.is) reached in
+    let here : IsReached width x y (Some c.in-Some.extent) =
+    subst (IsReached width x y) (sym c.extent.ensures.value ∙ c.in-Some.is) reached in
     let moved = simp to_z-of_z at c.moved_out.ensures in
     subst (λ (b : Bounds). Holds b x y) (sym moved) here
 
@@ -22,7 +23,8 @@ returns-in-Some-clause-perimeter c = λ ends x y held.
     let fits_width : FitsSigned w64 c.args.width = c.ranges.width in
     let reached = perimeter-reach c.no_stroke_reaches_out_of_the_moved_bounds.ensures c.bounds_hold_their_points.ensures
     c.args.self.now width ends x y held in
-    let here : IsReached width x y (Some c.in-Some.extent) = subst (IsReached width x y) (sym c.extent.ensures.value ∙ c.in-Some.is) reached in
+    let here : IsReached width x y (Some c.in-Some.extent) =
+    subst (IsReached width x y) (sym c.extent.ensures.value ∙ c.in-Some.is) reached in
     let moved = simp to_z-of_z at c.moved_out.ensures in
     subst (λ (b : Bounds). Holds b x y) (sym moved) here
 
@@ -31,7 +33,8 @@ returns-in-Some-clause-near c =
     let width = unsigned_abs c.args.width in
     let fits_width : FitsSigned w64 c.args.width = c.ranges.width in
     let moved = simp to_z-of_z at c.moved_out.ensures in
-    subst (AreSidesWithin (2 ^ 28)) (sym moved) (moved-near c.in-Some.extent width (omega (arith, ints)) c.in-Some.ensures.near)
+    subst (AreSidesWithin (2 ^ 28)) (sym moved)
+    (moved-near c.in-Some.extent width (omega (arith, ints)) c.in-Some.ensures.near)
 
 pub returns-in-None-clause-absent : goal.returns-in-None-clause-absent
 returns-in-None-clause-absent c =
