@@ -10,3 +10,5 @@ pub mod RectangleLemmas
 pub mod OutsideLemmas
 pub mod ReachLemmas
 pub mod DrawnLemmas
+pub mod NearLemmas
+pub mod LineLemmas

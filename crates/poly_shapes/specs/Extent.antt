@@ -1,5 +1,5 @@
 -- The bounds of points: the least closed rectangle that holds them.
-use Rattle.std.specs.Prelude.{ℕ, ℤ, pos, ◌+ℤ◌, ◌-ℤ◌, ◌≤ℤ◌, Option, None, Some, List, [], ◌∷◌, fold}
+use Rattle.std.specs.Prelude.{ℕ, ◌≤◌, unsigned_abs, ℤ, pos, ◌+ℤ◌, ◌-ℤ◌, ◌≤ℤ◌, Option, None, Some, List, [], ◌∷◌, fold}
 use Rattle.std.specs.Int.{int_min, int_max}
 use Rattle.poly_shapes.specs.declared.point.Point.{Point}
 use Rattle.poly_shapes.specs.declared.point.Bounds.{Bounds}
@@ -44,3 +44,15 @@ moved_out width bounds = record {
   r = bounds.r +ℤ pos width;
   b = bounds.b +ℤ pos width;
 }
+
+-- each side lies within a distance of 0, either way
+pub record AreSidesWithin (limit : ℕ) (bounds : Bounds) : Type 0 where
+  pub left : unsigned_abs bounds.l ≤ limit
+  pub top : unsigned_abs bounds.t ≤ limit
+  pub right : unsigned_abs bounds.r ≤ limit
+  pub bottom : unsigned_abs bounds.b ≤ limit
+
+-- so does a point
+pub record IsPointWithin (limit : ℕ) (p : Point) : Type 0 where
+  pub across : unsigned_abs p.x ≤ limit
+  pub down : unsigned_abs p.y ≤ limit

@@ -1,5 +1,5 @@
 -- A shape as its points and its subpaths, which take the points in order.
-use Rattle.std.specs.Prelude.{◌≡◌, ℕ, ◌+◌, ◌^◌, ◌≤◌, List, [], ◌∷◌, length, slice_range}
+use Rattle.std.specs.Prelude.{◌≡◌, false, ℕ, ◌+◌, ◌^◌, ◌≤◌, List, [], ◌∷◌, length, slice_range}
 use Rattle.std.specs.List.{All, flat_map}
 use Rattle.poly_shapes.specs.declared.point.Point.{Point}
 use Rattle.poly_shapes.specs.declared.point.Sub.{Sub}
@@ -32,3 +32,7 @@ edges_of points subs = flat_map (λ sub. ring (points_of points sub)) subs
 
 abbrev pub edges : Outline → List Segment
 edges outline = edges_of outline.points outline.subs
+
+-- a straight line: one open subpath of its two ends
+abbrev pub line : (from to : Point) → Outline
+line from to = record { points = from ∷ to ∷ []; subs = record { first = 0; count = 2; closed = false } ∷ [] }

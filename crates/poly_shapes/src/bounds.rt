@@ -1,5 +1,5 @@
-ghost use Rattle.std.specs.Prelude.{◌≡◌, ◌↔◌, ◌≤ℤ◌, ◌+ℤ◌, ◌-ℤ◌, pos, fold, IsTrue, IsSomeAnd};
-ghost use Rattle.poly_shapes.specs.Extent.{around, widened, bounds_of, Holds, moved_out};
+ghost use Rattle.std.specs.Prelude.{◌≡◌, ◌↔◌, ◌^◌, unsigned_abs, ◌≤ℤ◌, ◌+ℤ◌, ◌-ℤ◌, pos, fold, [], IsTrue, IsNone, IsSomeAnd};
+ghost use Rattle.poly_shapes.specs.Extent.{around, widened, bounds_of, Holds, moved_out, AreSidesWithin};
 
 use crate::point::{Bounds, Point};
 
@@ -15,6 +15,32 @@ impl Bounds {
         }
     }
 
+    /// The least closed rectangle that holds this one and the points.
+    pub fn widened_by(self, points: &[Point]) -> Bounds
+        ensures { result ≡ fold widened self points.now }
+    {
+        let mut bounds = self;
+        for &p in points {
+            bounds = bounds.widened(p);
+        }
+        bounds
+    }
+
+    /// The rectangle with each side, within 2^32, moved out by a width from 0 to 2^32.
+    pub fn moved_out(self, width: i64) -> Bounds
+        requires sides { AreSidesWithin (2 ^ 32) self }
+        requires width_above { pos 0 ≤ℤ width }
+        requires width_below { width ≤ℤ pos (2 ^ 32) }
+        ensures { result ≡ moved_out (unsigned_abs width) self }
+    {
+        Bounds {
+            l: self.l - width,
+            t: self.t - width,
+            r: self.r + width,
+            b: self.b + width,
+        }
+    }
+
     fn widened(self, p: Point) -> Bounds
         ensures { result ≡ widened self p }
     {
@@ -27,24 +53,15 @@ impl Bounds {
     }
 }
 
-/// The least closed rectangle that holds the points; none without a point.
+/// The least closed rectangle that holds the points, in their units; None exactly where there is no point.
 pub fn bounds_of(points: &[Point]) -> Option<Bounds>
-    ensures { result ≡ bounds_of points.now }
+    ensures value { result ≡ bounds_of points.now }
+    ensures absent { IsNone result ↔ (points.now ≡ []) }
 {
     match points {
         [] => None,
-        [first, rest @ ..] => Some(widened_by(Bounds::around(*first), rest)),
+        [first, rest @ ..] => Some(Bounds::around(*first).widened_by(rest)),
     }
-}
-
-fn widened_by(first: Bounds, points: &[Point]) -> Bounds
-    ensures { result ≡ fold widened first points.now }
-{
-    let mut bounds = first;
-    for &p in points {
-        bounds = bounds.widened(p);
-    }
-    bounds
 }
 
 /// Whether there are bounds and they hold the point, on their edges too.

@@ -8,6 +8,7 @@
 mod bounds;
 mod fill;
 pub mod laws;
+mod line;
 mod memory;
 mod outline;
 mod point;
@@ -15,6 +16,8 @@ mod poly;
 mod segment;
 mod stroke;
 
+pub use bounds::bounds_of;
+pub use line::line_stroke_holds;
 pub use memory::OutOfMemory;
 pub use point::{Bounds, Cap, FillRule, Point, Sub};
 pub use poly::Poly;

@@ -2,7 +2,7 @@ ghost use Rattle.std.specs.Prelude.{◌≡◌, ◌↔◌, ◌^◌, ◌≤◌, un
 ghost use Rattle.std.specs.List.{All};
 ghost use Rattle.poly_shapes.specs.Segments.{IsPlaced, IsNear};
 ghost use Rattle.poly_shapes.specs.Outline.{Outline, AreTiled, IsMeasured, edges};
-ghost use Rattle.poly_shapes.specs.Extent.{bounds_of, Holds, LiesIn, moved_out};
+ghost use Rattle.poly_shapes.specs.Extent.{bounds_of, Holds, LiesIn, moved_out, AreSidesWithin};
 ghost use Rattle.poly_shapes.specs.declared.point.Bounds.{Bounds};
 ghost use Rattle.poly_shapes.specs.Fill.{winding, crossings, Fills};
 ghost use Rattle.poly_shapes.specs.Stroke.{strokes, strokes_of};
@@ -54,6 +54,13 @@ impl Poly {
         })
     }
 
+    /// An equal shape in memory of its own.
+    pub fn copy(&self) -> Result<Poly, OutOfMemory>
+        ensures { IfOk result (λ poly. poly ≡ self.now) }
+    {
+        Poly::new(*self.points.allocator(), &self.points, &self.subs)
+    }
+
     /// Its points, in order.
     pub fn points(&self) -> &[Point]
         ensures points { result.now ≡ self.now.points }
@@ -75,6 +82,7 @@ impl Poly {
         ensures absent { IsNone result ↔ (self.now.points ≡ []) }
         ensures holds { IfSome result (λ b. All (λ p. Holds b p.x p.y) self.now.points) }
         ensures least { IfSome result (λ b. (outer : Bounds) → All (λ p. Holds outer p.x p.y) self.now.points → LiesIn b outer) }
+        ensures near { IfSome result (λ b. AreSidesWithin (2 ^ 26) b) }
     {
         self.bounds
     }
@@ -90,8 +98,8 @@ impl Poly {
         winding_of(&self.points, &self.subs, spot(x, y))
     }
 
-    /// How many edges of the outline, each subpath closed, the ray to the right from a point within 2^28 crosses. SVG 2,
-    /// "The 'fill-rule' property".
+    /// How many edges of the outline, each subpath closed, the ray to the right from a point within 2^28 crosses. SVG
+    /// 2, "The 'fill-rule' property".
     pub fn crossings(&self, x: i128, y: i128) -> u32
         requires x { unsigned_abs x ≤ 2 ^ 28 }
         requires y { unsigned_abs y ≤ 2 ^ 28 }
@@ -112,6 +120,15 @@ impl Poly {
         bounds_hold(self.bounds, spot(x, y)) && self.is_filled(rule, x, y)
     }
 
+    /// Whether the fill by a rule holds a point, which may lie anywhere. SVG 2, "The 'fill-rule' property".
+    pub fn is_point_in_fill(&self, rule: FillRule, x: i128, y: i128) -> bool
+        ensures { IsTrue result ↔ Fills rule (edges self.now) x y }
+    {
+        // no placed point is further off
+        let _ = &self.points;
+        is_near(x, y) && self.fills(rule, x, y)
+    }
+
     fn is_filled(&self, rule: FillRule, x: i128, y: i128) -> bool
         requires x { unsigned_abs x ≤ 2 ^ 28 }
         requires y { unsigned_abs y ≤ 2 ^ 28 }
@@ -123,8 +140,9 @@ impl Poly {
         }
     }
 
-    /// Whether the stroke of a width from 0 to 2^26, in the points' units, holds a point within 2^28: some segment's body,
-    /// some join or some end does. Joins are round. A point that it holds lies within the bounds, moved out by the width. SVG 2, "Stroke properties".
+    /// Whether the stroke of a width from 0 to 2^26, in the points' units, holds a point within 2^28: some segment's
+    /// body, some join or some end does. Joins are round. A point that it holds lies within the bounds, moved out by
+    /// the width. SVG 2, "Stroke properties".
     pub fn strokes(&self, width: i64, cap: Cap, x: i128, y: i128) -> bool
         requires width_above { pos 0 ≤ℤ width }
         requires width_below { width ≤ℤ pos (2 ^ 26) }
@@ -137,6 +155,18 @@ impl Poly {
         width > 0 && self.is_stroked(Pen { width, cap }, spot(x, y))
     }
 
+    /// Whether the stroke of a width from 0 to 2^26, in the points' units, holds a point, which may lie anywhere. SVG
+    /// 2, "Stroke properties".
+    pub fn is_point_in_stroke(&self, width: i64, cap: Cap, x: i128, y: i128) -> bool
+        requires width_above { pos 0 ≤ℤ width }
+        requires width_below { width ≤ℤ pos (2 ^ 26) }
+        ensures { result ≡ strokes self.now (unsigned_abs width) cap x y }
+    {
+        // no placed point is further off by more than the width
+        let _ = &self.points;
+        is_near(x, y) && self.strokes(width, cap, x, y)
+    }
+
     fn is_stroked(&self, pen: Pen, at: Point) -> bool
         requires width { pen.width ≤ 2 ^ 26 }
         requires at { IsNear at }
@@ -147,8 +177,15 @@ impl Poly {
     }
 }
 
+/// Whether a point lies within 2^28.
+pub fn is_near(x: i128, y: i128) -> bool
+    ensures { IsTrue result ↔ (unsigned_abs x ≤ 2 ^ 28) × (unsigned_abs y ≤ 2 ^ 28) }
+{
+    x.unsigned_abs() <= 1 << 28 && y.unsigned_abs() <= 1 << 28
+}
+
 /// The point with these coordinates.
-fn spot(x: i128, y: i128) -> Point
+pub fn spot(x: i128, y: i128) -> Point
     requires x { unsigned_abs x ≤ 2 ^ 28 }
     requires y { unsigned_abs y ≤ 2 ^ 28 }
     ensures { result ≡ record { x = x; y = y } }

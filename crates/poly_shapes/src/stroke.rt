@@ -284,7 +284,7 @@ fn end_holds(
 }
 
 /// Whether the stroke of a subpath holds the point.
-fn subpath_holds(points: &[Point], closed: bool, pen: Pen, at: Point) -> bool
+pub fn subpath_holds(points: &[Point], closed: bool, pen: Pen, at: Point) -> bool
     requires at { IsNear at }
     requires width { pen.width ≤ 2 ^ 26 }
     requires points { All IsPlaced points.now }

@@ -389,3 +389,74 @@ fn bounds_of_points(rt: HostRuntime) -> Result<(), Fail> {
     assert_eq!(rt; poly.bounds(), Some(around));
     Ok(())
 }
+
+const FAR: i128 = 5_000_000_000_000_000_000_000_000_000_000_000_000;
+
+#[test]
+fn points_near_and_far(rt: HostRuntime) -> Result<(), Fail> {
+    let places = [(0, 0), (10, 0), (10, 10), (0, 10)];
+    let square = subpath(&rt, rt.alloc(), &places, true)?;
+    let copied = square.copy()?;
+    assert_eq!(rt; copied.points(), square.points());
+    assert_eq!(rt; copied.subs(), square.subs());
+    for poly in [&square, &copied] {
+        assert!(rt; poly.is_point_in_fill(FillRule::NonZero, 5, 5));
+        assert!(rt; !poly.is_point_in_fill(FillRule::EvenOdd, 10, 5));
+        assert!(rt; !poly.is_point_in_fill(FillRule::NonZero, FAR, 5));
+        assert!(rt; !poly.is_point_in_fill(FillRule::EvenOdd, 5, -FAR));
+        assert!(rt; poly.is_point_in_stroke(4, Cap::Butt, -2, 5));
+        assert!(rt; !poly.is_point_in_stroke(4, Cap::Butt, -3, 5));
+        assert!(rt; !poly.is_point_in_stroke(0, Cap::Butt, 0, 5));
+        assert!(rt; !poly.is_point_in_stroke(67_108_864, Cap::Square, -FAR, FAR));
+    }
+    Ok(())
+}
+
+// The line from (0, 0) to (30, 40) is 50 long, and (11, 23) lies 5 to the side of its middle.
+#[test]
+fn strokes_of_a_line(rt: HostRuntime) {
+    let from = Point { x: 0, y: 0 };
+    let to = Point { x: 30, y: 40 };
+    assert!(rt; line_stroke_holds(from, to, 10, Cap::Butt, 11, 23));
+    assert!(rt; !line_stroke_holds(from, to, 10, Cap::Butt, 10, 23));
+    assert!(rt; !line_stroke_holds(from, to, 9, Cap::Butt, 11, 23));
+    assert!(rt; !line_stroke_holds(from, to, 0, Cap::Round, 15, 20));
+    assert!(rt; !line_stroke_holds(from, to, 10, Cap::Butt, 33, 44));
+    assert!(rt; line_stroke_holds(from, to, 10, Cap::Round, 33, 44));
+    assert!(rt; !line_stroke_holds(from, to, 10, Cap::Round, 29, 47));
+    assert!(rt; line_stroke_holds(from, to, 10, Cap::Square, 29, 47));
+    assert!(rt; !line_stroke_holds(from, to, 10, Cap::Square, FAR, -FAR));
+    // a dot
+    assert!(rt; !line_stroke_holds(to, to, 10, Cap::Butt, 30, 40));
+    assert!(rt; line_stroke_holds(to, to, 10, Cap::Round, 35, 40));
+    assert!(rt; !line_stroke_holds(to, to, 10, Cap::Round, 35, 41));
+}
+
+#[test]
+fn bounds_that_grow(rt: HostRuntime) -> Result<(), Fail> {
+    assert_eq!(rt; bounds_of(&[]), None);
+    let corners = [Point { x: 3, y: -2 }, Point { x: -5, y: 7 }];
+    let around = Bounds {
+        l: -5,
+        t: -2,
+        r: 3,
+        b: 7,
+    };
+    assert_eq!(rt; bounds_of(&corners), Some(around));
+    let further = Bounds {
+        l: -5,
+        t: -4,
+        r: 9,
+        b: 7,
+    };
+    let widened = around.widened_by(&[Point { x: 9, y: 0 }, Point { x: 0, y: -4 }]);
+    assert_eq!(rt; widened, further);
+    let moved = Bounds {
+        l: -8,
+        t: -5,
+        r: 6,
+        b: 10,
+    };
+    assert_eq!(rt; around.moved_out(3), moved);
+    Ok(())
+}

@@ -1,0 +1,64 @@
+-- Boxes as a loop takes them: their corners, and which of them holds a point.
+use Rattle.std.proofs.Common.{◌≡◌, ℕ, zero, suc, ◌+◌, ◌<◌, ◌⊎◌, inl, inr, ℤ, List, [], ◌∷◌, length, drop, get_or, fold, ◌^◌, arith, subst}
+use Rattle.std.specs.List.{All, flat_map}
+use Rattle.std.proofs.lemmas.Int.{ints}
+use Rattle.std.proofs.lemmas.List.Elements.{All-append}
+use Rattle.std.proofs.lemmas.List.{at_drop_more}
+use Rattle.poly_shapes.specs.declared.point.Bounds.{Bounds}
+use Rattle.poly_shapes.specs.declared.point.Point.{Point}
+use Rattle.poly_shapes.specs.Extent.{widened, IsPointWithin}
+use Rattle.svg_shapes.specs.declared.boxes.FineBox.{FineBox}
+use Rattle.svg_shapes.specs.Measures.{IsBoxMeasured}
+use Rattle.svg_shapes.specs.Boxes.{InBox}
+use Rattle.svg_shapes.specs.Shapes.{corners}
+
+-- one step of the loop over the corners of boxes
+pub widened-step : (bounds : Bounds) (boxes : List FineBox) (k : ℕ) (d : FineBox) → k < length boxes
+    → fold widened bounds (flat_map corners (drop k boxes))
+    ≡ fold widened (fold widened bounds (corners (get_or boxes k d))) (flat_map corners (drop (k + 1) boxes))
+widened-step bounds boxes k d h = at_drop_more (λ rest. fold widened bounds (flat_map corners rest)) boxes k d h
+
+-- no box before a place holds the point
+abbrev pub NoneHolds : (x y : ℤ) → List FineBox → ℕ → Type 0
+NoneHolds x y boxes end = (k : ℕ) (d : FineBox) → k < end → InBox x y (get_or boxes k d) → ⊥
+
+pub none-holds-step : (x y : ℤ) (boxes : List FineBox) (end : ℕ) → end < length boxes → NoneHolds x y boxes end
+    → ((d : FineBox) → InBox x y (get_or boxes end d) → ⊥) → NoneHolds x y boxes (end + 1)
+none-holds-step x y boxes end inside before here k d h held = by_place (before_or_here k end h)
+  where
+    before_or_here : (k end : ℕ) → k < end + 1 → (k < end) ⊎ (k ≡ end)
+    before_or_here k end h = grind arith
+
+    by_place : (k < end) ⊎ (k ≡ end) → ⊥
+    by_place (inl less) = before k d less held
+    by_place (inr same) = here d (subst (λ (i : ℕ). InBox x y (get_or boxes i d)) same held)
+
+-- the corners of measured boxes lie within 2^27
+abbrev IsCornerNear : Point → Type 0
+IsCornerNear p = IsPointWithin (2 ^ 27) p
+
+corners-within : (box : FineBox) → IsBoxMeasured box → All IsCornerNear (corners box)
+corners-within box m zero d h = record {
+  across = omega (arith, ints, m.x.within);
+  down = omega (arith, ints, m.y.within);
+}
+corners-within box m (suc zero) d h = record {
+  across = omega (arith, ints, m.x.within, m.w.at_least, m.w.at_most);
+  down = omega (arith, ints, m.y.within);
+}
+corners-within box m (suc (suc zero)) d h = record {
+  across = omega (arith, ints, m.x.within, m.w.at_least, m.w.at_most);
+  down = omega (arith, ints, m.y.within, m.h.at_least, m.h.at_most);
+}
+corners-within box m (suc (suc (suc zero))) d h = record {
+  across = omega (arith, ints, m.x.within);
+  down = omega (arith, ints, m.y.within, m.h.at_least, m.h.at_most);
+}
+corners-within box m (suc (suc (suc (suc k)))) d h = absurd (omega arith)
+
+pub all-corners-within : (boxes : List FineBox) → All IsBoxMeasured boxes
+    → All (IsPointWithin (2 ^ 27)) (flat_map corners boxes)
+all-corners-within [] all = λ k d h. absurd (omega arith)
+all-corners-within (box ∷ boxes) all =
+    All-append IsCornerNear (corners box) (flat_map corners boxes)
+    (corners-within box (all 0 box (omega arith))) (all-corners-within boxes (λ k d h. all (suc k) d (omega arith)))

@@ -1,0 +1,6 @@
+pub mod Twice
+pub mod EllipseLemmas
+pub mod RectLemmas
+pub mod BoxLemmas
+pub mod ExtentLemmas
+pub mod ReachLemmas

@@ -1,0 +1,15 @@
+-- Fine units as half fine units.
+use Rattle.std.proofs.Common.{◌≡◌, ◌^◌, ◌<◌, ℤ, ◌+ℤ◌, FitsSigned, unsigned_abs, arith}
+use mir.Syntax.{w128}
+use borrow.Author.Differences.{same_in, sum_is_lem, product_is}
+use Rattle.std.proofs.lemmas.Int.{ints, fits_signed_from_abs}
+use Rattle.svg_shapes.specs.Measures.{twice}
+
+pub twice-sum : (z : ℤ) → twice z ≡ z +ℤ z
+twice-sum z = omega (arith, same_in, sum_is_lem, product_is)
+
+-- a point in half fine units has room in 128 bits
+pub twice-fits : (z : ℤ) → unsigned_abs z < 2 ^ 123 → FitsSigned w128 (twice z)
+twice-fits z small =
+    let room : unsigned_abs (z +ℤ z) < 2 ^ 127 = omega (arith, ints) in
+    fits_signed_from_abs w128 (twice z) (rw (twice-sum z) room)

@@ -1,0 +1,5 @@
+pub mod Measures
+pub mod Rects
+pub mod Ellipses
+pub mod Boxes
+pub mod Shapes
