@@ -9,6 +9,7 @@ use fractions::{Blank, Brand};
 use std::process::Abort;
 use std::test::Fail;
 
+mod counts;
 mod layouts;
 
 // A box of 100 by 100 units for each corner.
