@@ -4,3 +4,5 @@ pub mod RectLemmas
 pub mod BoxLemmas
 pub mod ExtentLemmas
 pub mod ReachLemmas
+pub mod DiscLemmas
+pub mod PlainRects

@@ -23,7 +23,7 @@ use Rattle.svg_shapes.specs.Rects.{InRect, OnRect}
 use Rattle.svg_shapes.specs.Ellipses.{ellipse_of, grown_ellipse, InEllipse, OnEllipse}
 use Rattle.svg_shapes.specs.Boxes.{InBox, InBoxes}
 use Rattle.svg_shapes.specs.Shapes.{box_of, Interior, Perimeter, corners, rect_points, ellipse_points, base_points}
-use Rattle.svg_shapes.proofs.Twice.{twice-sum}
+use Rattle.svg_shapes.proofs.Twice.{twice-sum, positive-half, size-positive}
 use Rattle.svg_shapes.proofs.EllipseLemmas.{too_far_across, too_far_down}
 use Rattle.svg_shapes.proofs.ExtentLemmas.{ellipse_points-drawn, rect_points-drawn}
 
@@ -109,9 +109,6 @@ no_further far near never = by_order (less_or_not near far)
     by_order (inl less) = absurd (never less)
     by_order (inr le) = le
 
-size-positive : (z : ℤ) → pos 0 <ℤ z → 0 < unsigned_abs z
-size-positive z h = omega (arith, ints)
-
 -- a point that an ellipse holds is no further off than its radii, across and down
 held-across : (e : Ellipse) (x y : ℤ) → InEllipse e x y → distance (twice x) e.cx ≤ unsigned_abs e.rx
 held-across e x y held =
@@ -155,14 +152,11 @@ ellipse-reach law cx cy rx ry e width x y wide high same_cx same_cy most_rx most
     let near_x = rw same_cx at (held-across e x y held) in
     let near_y = rw same_cy at (held-down e x y held) in
     subst (λ (points : List Point). IsReached width x y (bounds_of points))
-    (sym (ellipse_points-drawn cx cy rx ry (half_positive rx wide) (half_positive ry high)))
+    (sym (ellipse_points-drawn cx cy rx ry (positive-half rx wide) (positive-half ry high)))
     (out_of _ width (cx -ℤ rx) (cy -ℤ ry) (cx +ℤ rx) (cy +ℤ ry) x y
     (hold 0 none (omega arith)) (hold 1 none (omega arith))
     (side-reach cx rx e.rx width x wide most_rx near_x held.wide)
     (side-reach cy ry e.ry width y high most_ry near_y held.high))
-  where
-    half_positive : (z : ℤ) → pos 0 <ℤ twice z → pos 0 <ℤ z
-    half_positive z h = let s = twice-sum z in omega (arith, ints)
 
 ellipse-interior : BoundsLaw → (cx cy rx ry : ℤ) (width : ℕ) (x y : ℤ) → InEllipse (ellipse_of cx cy rx ry) x y
     → IsReached width x y (bounds_of (ellipse_points cx cy rx ry))

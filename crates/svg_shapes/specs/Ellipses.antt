@@ -1,7 +1,7 @@
 -- SVG 2, "The 'circle' element" and "The 'ellipse' element": the points whose distances dx and dy from the centre meet
 -- (dx / rx)^2 + (dy / ry)^2 <= 1. A radius of 0 disables the shape. A circle has two like radii.
-use Rattle.std.specs.Prelude.{ℕ, ◌<◌, ◌≤◌, unsigned_abs, ℤ, pos, ◌+ℤ◌, ◌-ℤ◌, ◌<ℤ◌}
-use Rattle.corner_shapes.specs.Curve.{EllipseHolds}
+use Rattle.std.specs.Prelude.{ℕ, ◌+◌, ◌<◌, ◌≤◌, unsigned_abs, ℤ, pos, ◌+ℤ◌, ◌-ℤ◌, ◌<ℤ◌}
+use Rattle.corner_shapes.specs.Curve.{square, distance, EllipseHolds}
 use Rattle.svg_shapes.specs.declared.ellipse.Ellipse.{Ellipse}
 use Rattle.svg_shapes.specs.Measures.{twice}
 
@@ -37,3 +37,8 @@ pub record OnEllipse (e : Ellipse) (width : ℕ) (x y : ℤ) : Type 0 where
   pub stroked : 0 < width
   pub within : InEllipse (grown_ellipse width e) x y
   pub beyond : InEllipse (shrunk_ellipse width e) x y → ⊥
+
+-- a disc in fine units: the points no further from the centre than the radius, which is positive
+pub record InDisc (cx cy r : ℤ) (x y : ℤ) : Type 0 where
+  pub positive : pos 0 <ℤ r
+  pub within : square (distance x cx) + square (distance y cy) ≤ square (unsigned_abs r)

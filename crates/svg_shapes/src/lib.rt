@@ -11,6 +11,7 @@
 mod boxes;
 mod ellipse;
 mod extent;
+pub mod laws;
 mod rect;
 mod shape;
 
