@@ -6,7 +6,7 @@ use Rattle.std.proofs.lemmas.Str.{IsUtf8-from_is_utf8, is_utf8-from_IsUtf8}
 use Rattle.std.proofs.lemmas.Bool.{lt-ltb, le-ltb}
 use Rattle.serde_json.specs.Data.{Data}
 use Rattle.serde_json.specs.Read.{read}
-use Rattle.script_lines.specs.Command.{is_long, json_reading, command_or_fault, meaning}
+use Rattle.script_lines.specs.Command.{json_reading, command_or_fault, meaning}
 use Rattle.script_lines.specs.declared.command.LineFault.TheVariants as fault
 
 -- bytes that are UTF-8 have the reading of their text
