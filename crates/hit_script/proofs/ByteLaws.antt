@@ -1,5 +1,5 @@
 -- A byte more of a script.
-use Rattle.std.proofs.Common.{◌≡◌, ℕ, false, cond, eqb, List, [], ◌∷◌, ◌++◌, refl, sym, ap, ◌∙◌, inl, inr, append_assoc}
+use Rattle.std.proofs.Common.{◌≡◌, ℕ, false, cond, eqb, List, [], ◌∷◌, ◌++◌, refl, sym, ap, ◌∙◌, inl, inr}
 use Rattle.std.proofs.lemmas.Bool.{cases_Bool, eqb-true}
 use Rattle.hit_script.specs.Lines.{lines, has_newline, whole_lines, unfinished}
 use Rattle.hit_script.proofs.LineLaws.{lines_next, whole_lines_next, whole_lines_none, unfinished_next, unfinished_none, unfinished_more, nothing_whole, nothing_unfinished, no_lines, no_newline, newline_not_pushed}

@@ -1,6 +1,6 @@
 -- How a run ends, by how far it had come.
 use Rattle.std.proofs.Common.{◌≡◌, ◌≢◌, ◌<◌, ◌≤◌, ◌+◌, ◌^◌, ℕ, List, [], ◌++◌, length, take, drop, Option, Some, None, Result, Ok, Err, inl, inr, refl, ap, sym, ◌∙◌, append_assoc, arith}
-use Rattle.std.specs.Prelude.{IfSome, IsSome, IsSomeAnd, OnOk, OnErr, ◌⊎◌, ◌-◌, option_and_then}
+use Rattle.std.specs.Prelude.{IfSome, IsSome, IsSomeAnd, OnOk, OnErr, ◌⊎◌, ◌-◌}
 use Rattle.std.proofs.lemmas.Option.{same_Some}
 use Rattle.std.proofs.lemmas.Bool.{false≢true}
 use Rattle.std.proofs.lemmas.List.{append-nil, take-append-drop, append_cancel_right, append_cancel_left, length-drop}
@@ -9,7 +9,7 @@ use Rattle.hit_script.specs.Answered.{Answers, Hands}
 use Rattle.hit_script.specs.Ending.{Ends, Moment}
 use Rattle.hit_script.specs.Ends.{Read, Rose, TakesAll, TakesFront}
 use Rattle.hit_script.specs.Lines.{lines, whole_lines, unfinished}
-use Rattle.hit_script.specs.Log.{Entry, Grows, Scripted, scripted_lines, scripted_replies, text_if_none}
+use Rattle.hit_script.specs.Log.{Entry, Grows, scripted_lines, scripted_replies}
 use Rattle.hit_script.specs.Outcome.{fault_status}
 use Rattle.hit_script.specs.Script.{first_page, replies_from, page_behind}
 use Rattle.hit_script.specs.declared.outcome.Status.{Status}
@@ -17,7 +17,7 @@ use Rattle.hit_script.specs.declared.outcome.Status.TheVariants as status
 use Rattle.hit_script.specs.declared.sinks.SinkFault.{SinkFault}
 use Rattle.hit_script.specs.declared.sinks.SinkFault.TheVariants as sink_fault
 use Rattle.hit_script.proofs.Logs.{grows_both}
-use Rattle.hit_script.proofs.Progress.{Stands, page_now, taken_now, hands_both, all_is_front, front_behind, left_more, read_rest, read_within, rose_since}
+use Rattle.hit_script.proofs.Progress.{Stands, page_now, taken_now, hands_both, all_is_front, front_behind, left_more, read_rest, read_within}
 use Rattle.hit_script.proofs.Runs.{replies_from-append, all_lines_more}
 
 -- The replies to a script, by those to the lines that are whole so far.

@@ -1,11 +1,10 @@
 -- Logs that go on, and what their entries make of lines.
-use Rattle.std.proofs.Common.{◌≡◌, ℕ, ℤ, true, ◌&&◌, List, [], ◌∷◌, ◌++◌, Option, Some, None, refl, sym, ap, ◌∙◌, append_assoc}
+use Rattle.std.proofs.Common.{◌≡◌, ℕ, List, [], ◌∷◌, ◌++◌, Option, Some, None, refl, sym, ap, ◌∙◌, append_assoc}
 use Rattle.std.specs.Prelude.{option_and_then}
 use Rattle.std.proofs.lemmas.Option.{same_Some}
 use Rattle.std.proofs.lemmas.List.{append-nil}
-use Rattle.std.specs.Ordering.{int_eq}
 use Rattle.hit_script.specs.Answered.{IsScripted}
-use Rattle.hit_script.specs.Log.{Entry, IsFollowedBy, Logs, Grows, Scripted, scripted_line, scripted_lines, at_point, text_before}
+use Rattle.hit_script.specs.Log.{Entry, IsFollowedBy, Logs, Grows, Scripted, scripted_line, scripted_lines, text_before}
 
 -- A log goes on.
 

@@ -1,11 +1,10 @@
 -- Replies and pages over lines that go on.
 use Rattle.std.proofs.Common.{◌≡◌, ◌<◌, ℕ, suc, eqb, true, false, List, [], ◌∷◌, ◌++◌, length, refl, ap, sym, ◌∙◌, append_assoc, arith}
 use Rattle.std.proofs.lemmas.Bool.{both_ways, eqb-true}
-use Rattle.std.proofs.lemmas.List.{append-nil}
 use Rattle.box_tree.specs.Contents.{Contents}
-use Rattle.hit_script.specs.Lines.{lines, has_newline, whole_lines, unfinished}
+use Rattle.hit_script.specs.Lines.{lines, whole_lines, unfinished}
 use Rattle.hit_script.specs.Script.{answer_to, replies_from, page_behind}
-use Rattle.hit_script.proofs.LineLaws.{whole_and_unfinished, whole_lines_more, lines_behind_whole, lines_last, no_lines}
+use Rattle.hit_script.proofs.LineLaws.{whole_and_unfinished, whole_lines_more, lines_behind_whole, no_lines}
 
 nat_apart : {n : ℕ} → suc n ≡ 0 → ⊥
 nat_apart e = omega arith

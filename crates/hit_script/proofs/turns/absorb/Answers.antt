@@ -1,11 +1,9 @@
-use Rattle.std.proofs.Common.{◌≡◌, [], ◌∷◌, ◌++◌, ◌+◌, ◌<◌, List, get_or, length, take, sym, ap, ◌∙◌}
-use Rattle.std.proofs.lemmas.List.{append-nil, append_assoc, take_more, take_all}
-use Rattle.hit_script.specs.Answered.{Answers, Appends}
-use Rattle.hit_script.specs.Lines.{lines, whole_lines, unfinished}
-use Rattle.hit_script.proofs.Answering.{appends_nothing, appends_both, answers_grow}
+use Rattle.std.proofs.Common.{◌≡◌, [], ◌∷◌, ◌++◌, ◌+◌, List, get_or, take, sym, ap, ◌∙◌}
+use Rattle.std.proofs.lemmas.List.{append-nil, append_assoc, take_more}
+use Rattle.hit_script.specs.Lines.{lines, whole_lines}
+use Rattle.hit_script.proofs.Answering.{appends_nothing, appends_both}
 use Rattle.hit_script.proofs.ByteLaws.{begun_open, unfinished_byte, lines_with_byte, ended_by}
 use Rattle.hit_script.proofs.LineLaws.{unfinished_none, whole_lines_none, no_lines}
-use Rattle.hit_script.proofs.Logs.{grows_both}
 use Rattle.hit_script.proofs.turns.absorb.Goals as goal
 
 pub loop-byte-init : goal.loop-byte-init

@@ -1,4 +1,4 @@
-use Rattle.std.proofs.Common.{sym, ◌∙◌}
+use Rattle.std.proofs.Common.{◌∙◌}
 use Rattle.hit_script.specs.Lines.{lines}
 use Rattle.hit_script.proofs.Endings.{handed_all, handed_front}
 use Rattle.hit_script.proofs.turns.reply_to_last.Goals as goal
