@@ -9,7 +9,7 @@ use Rattle.poly_shapes.specs.declared.point.Point.{Point}
 use Rattle.poly_shapes.specs.declared.segment.Segment.{Segment}
 use Rattle.poly_shapes.specs.declared.point.FillRule.TheVariants.{EvenOdd}
 use Rattle.poly_shapes.specs.Segments.{IsPlaced, ring}
-use Rattle.poly_shapes.specs.Outline.{points_of, edges, IsMeasured}
+use Rattle.poly_shapes.specs.Outline.{points_of, edges}
 use Rattle.poly_shapes.specs.Fill.{Fills}
 use Rattle.image_maps.specs.declared.area.AreaKind.{AreaKind}
 use Rattle.image_maps.specs.declared.area.AreaKind.TheVariants.{Rect, Circle, Poly, Default}
@@ -114,13 +114,3 @@ polygon_fill numbers x y = by_count (nat_le 6 (length numbers)) (grind (arith, n
       λ f. let no : ⊥ = cc in absurd no,
       λ h. let e = complete h.enough in let no : ⊥ = cc in absurd no,
     )
-
--- the outline of an area is one that is tested
-pub outline-measured : (kind : AreaKind) (numbers : List ℤ) → length numbers ≤ 2 ^ 20 → All IsNumber numbers
-    → IsMeasured (outline_of kind numbers)
-outline-measured kind numbers few all =
-    let pairs = corners-few kind numbers in record {
-      placed = corners-placed kind numbers all;
-      few = omega (arith, pairs);
-      tiled = (refl, omega arith);
-    }

@@ -1,3 +1,2 @@
 pub mod Circles
 pub mod Corners
-pub mod Reach

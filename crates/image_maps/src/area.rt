@@ -2,10 +2,9 @@ ghost use Rattle.std.specs.Prelude.{◌≡◌, ◌↔◌, ◌^◌, ◌<◌, ◌�
 ghost use Rattle.std.specs.List.{All};
 ghost use Rattle.image_maps.specs.Area.{IsNumber, corners, outline_of, Covers, vertices};
 
-use crate::polygon::is_filled;
 use crate::round::in_circle;
 use crate::straight::{in_rect, poly_of};
-use poly_shapes::{OutOfMemory, Poly};
+use poly_shapes::{FillRule, OutOfMemory, Poly};
 use std::alloc::Global;
 use std::marker::Model;
 
@@ -65,7 +64,7 @@ impl AreaShape {
         match self.kind {
             AreaKind::Rect => in_rect(&self.numbers, x, y),
             AreaKind::Circle => in_circle(&self.numbers, x, y),
-            AreaKind::Poly => is_filled(&self.poly, x, y),
+            AreaKind::Poly => self.poly.is_point_in_fill(FillRule::EvenOdd, x, y),
             AreaKind::Default => true,
         }
     }

@@ -7,7 +7,6 @@
 #![tactic(auto)]
 
 mod area;
-mod polygon;
 mod round;
 mod straight;
 
