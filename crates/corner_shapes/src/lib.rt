@@ -5,10 +5,12 @@
 // unit (1/4096 px) by which the used radii are defined. The crate stands on std alone.
 #![tactic(auto)]
 
+mod ellipse;
 mod factor;
 mod radii;
 mod rounded;
 
+pub use ellipse::is_within_ellipse;
 pub use radii::{Corners, used_radii};
 pub use rounded::{Edges, Rounded};
 

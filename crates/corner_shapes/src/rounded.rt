@@ -1,7 +1,8 @@
 ghost use Rattle.std.specs.Prelude.{◌≡◌, ◌+◌, ◌*◌, ◌^◌, ◌≤◌, ◌↔◌, ℤ, pos, ◌+ℤ◌, ◌-ℤ◌, ◌≤ℤ◌, ◌<ℤ◌, unsigned_abs, IsTrue, IfSome, SomeIff};
 ghost use Rattle.corner_shapes.specs.Radii.{IsLengthWithin, AreBothWithin, AreRadiiWithin};
-ghost use Rattle.corner_shapes.specs.Curve.{IsMeasured, AreBordersWithin, inner_radii, inner_corners, padding_curve, distance, IsWithinEllipse, FitsBoth, IsBetweenEdges, FitsTopLeft, FitsTopRight, FitsBottomRight, FitsBottomLeft, FitsCorners, InRounded};
+ghost use Rattle.corner_shapes.specs.Curve.{IsMeasured, AreBordersWithin, inner_radii, inner_corners, padding_curve, distance, FitsBoth, IsBetweenEdges, FitsTopLeft, FitsTopRight, FitsBottomRight, FitsBottomLeft, FitsCorners, InRounded};
 
+use crate::ellipse::is_within_ellipse;
 use crate::radii::{Corners, Radii};
 
 /// The widths of a box's four borders, in units.
@@ -199,19 +200,6 @@ fn fits(across: Option<u128>, down: Option<u128>, radii: Radii) -> bool
         ),
         _ => true,
     }
-}
-
-/// Whether an ellipse with these radii holds a point so far from its centre.
-fn is_within_ellipse(dx: u128, dy: u128, x_radius: u64, y_radius: u64) -> bool
-    requires x_radius { x_radius ≤ 2 ^ 28 }
-    requires y_radius { y_radius ≤ 2 ^ 28 }
-    requires across { dx ≤ x_radius }
-    requires down { dy ≤ y_radius }
-    ensures { IsTrue result ↔ IsWithinEllipse dx dy x_radius y_radius }
-{
-    let (x_radius, y_radius) = (u128::from(x_radius), u128::from(y_radius));
-    let (across, down, whole) = (dx * y_radius, dy * x_radius, x_radius * y_radius);
-    across * across + down * down <= whole * whole
 }
 
 /// The radii less the borders that they meet.

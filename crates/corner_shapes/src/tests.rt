@@ -1,4 +1,4 @@
-use crate::{Corners, Edges, Rounded, used_radii};
+use crate::{Corners, Edges, Rounded, is_within_ellipse, used_radii};
 
 #[test]
 fn used_radii_by_hand(rt: HostRuntime) {
@@ -184,4 +184,33 @@ fn held_points_by_hand(rt: HostRuntime) {
         corners: Corners { r: [0; 8] },
     };
     assert_eq!(rt; thin.holds(15, 15), false);
+}
+
+#[test]
+fn ellipses_by_hand(rt: HostRuntime) {
+    let longest = 1u64 << 28;
+    // the distances across and down, the radii, and whether the ellipse holds the point
+    for (dx, dy, x_radius, y_radius, is_in) in [
+        (0, 0, 5, 3, true),
+        (5, 0, 5, 3, true),
+        (0, 3, 5, 3, true),
+        // 12^2 + 5^2 = 169, and 15^2 = 225
+        (4, 1, 5, 3, true),
+        // 9^2 + 10^2 = 181
+        (3, 2, 5, 3, true),
+        // 12^2 + 10^2 = 244
+        (4, 2, 5, 3, false),
+        (3, 4, 5, 5, true),
+        (4, 4, 5, 5, false),
+        (1u128 << 28, 0, longest, longest, true),
+        (1u128 << 28, 1, longest, longest, false),
+    ] {
+        assert!(rt; dx <= u128::from(x_radius) && dy <= u128::from(y_radius));
+        assert!(rt; x_radius <= longest && y_radius <= longest);
+        assert_eq!(rt;
+            is_within_ellipse(dx, dy, x_radius, y_radius),
+            is_in,
+            "{dx} {dy}"
+        );
+    }
 }

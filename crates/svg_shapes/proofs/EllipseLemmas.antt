@@ -1,5 +1,5 @@
 -- What an ellipse holds, by what was measured, and how far it reaches.
-use Rattle.std.proofs.Common.{◌≡◌, ℕ, suc, ◌+◌, ◌*◌, ◌^◌, ◌<◌, ◌≤◌, ℤ, pos, ◌<ℤ◌, Bool, true, false, refl, arith, subst, sym, IsTrue, ◌↔◌, unsigned_abs}
+use Rattle.std.proofs.Common.{◌≡◌, ℕ, suc, ◌+◌, ◌*◌, ◌<◌, ◌≤◌, ℤ, pos, ◌<ℤ◌, Bool, true, false, refl, arith, subst, sym, IsTrue, ◌↔◌, unsigned_abs}
 use Rattle.std.specs.Prelude.{not}
 use Rattle.std.proofs.Math.Nat.{mul-le-mul}
 use Rattle.corner_shapes.specs.Curve.{square, distance, IsWithinEllipse}
@@ -28,10 +28,6 @@ pub too_far_down : (dx dy rx ry : ℕ) → ry < dy → 0 < rx → IsWithinEllips
 too_far_down dx dy rx ry far positive within =
     let scaled : suc ry * rx ≤ dy * rx = mul-le-mul far (omega arith) in
     square-above (dy * rx) (rx * ry) (square (dx * ry)) (omega arith) (omega arith)
-
--- the square of a product of two lengths up to 2^28 leaves room in 128 bits
-pub square_of_product : (a b : ℕ) → a ≤ 2 ^ 28 → b ≤ 2 ^ 28 → square (a * b) ≤ 2 ^ 112
-square_of_product a b p q = let h : a * b ≤ 2 ^ 56 = mul-le-mul p q in mul-le-mul h h
 
 -- the test of an ellipse by what was measured
 pub in_ellipse-by : (e : Ellipse) (x y : ℤ) (dx dy rx ry : ℕ) (r : Bool) → pos 0 <ℤ e.rx → pos 0 <ℤ e.ry

@@ -3,6 +3,8 @@ ghost use Rattle.corner_shapes.specs.Curve.{distance, IsWithinEllipse};
 ghost use Rattle.svg_shapes.specs.Measures.{twice, IsPlace, IsLength};
 ghost use Rattle.svg_shapes.specs.Ellipses.{IsEllipseWithin, ellipse_of, grown_ellipse, shrunk_ellipse, InEllipse, OnEllipse};
 
+use corner_shapes::is_within_ellipse;
+
 /// An ellipse by its centre and its radii, in half fine units. One whose radii aren't both positive holds nothing.
 #[derive(Clone, Copy)]
 pub struct Ellipse {
@@ -66,7 +68,7 @@ impl Ellipse {
         if self.rx <= 0 || self.ry <= 0 {
             return false;
         }
-        is_within_ellipse(
+        reaches(
             distance(x, self.cx),
             distance(y, self.cy),
             self.rx.unsigned_abs(),
@@ -101,20 +103,18 @@ fn distance(at: i128, centre: i64) -> u128
 
 /// Whether an ellipse with these radii holds a point so far from its centre: one that is further off than a radius,
 /// across or down, is not tested further.
-fn is_within_ellipse(across: u128, down: u128, rx: u64, ry: u64) -> bool
+fn reaches(across: u128, down: u128, rx: u64, ry: u64) -> bool
     requires rx_above { 0 < rx }
     requires ry_above { 0 < ry }
     requires rx_below { rx ≤ 2 ^ 28 }
     requires ry_below { ry ≤ 2 ^ 28 }
     ensures { IsTrue result ↔ IsWithinEllipse across down rx ry }
 {
-    let (rx, ry) = (u128::from(rx), u128::from(ry));
-    if rx < across {
+    if u128::from(rx) < across {
         return false;
     }
-    if ry < down {
+    if u128::from(ry) < down {
         return false;
     }
-    let (dx, dy, whole) = (across * ry, down * rx, rx * ry);
-    dx * dx + dy * dy <= whole * whole
+    is_within_ellipse(across, down, rx, ry)
 }

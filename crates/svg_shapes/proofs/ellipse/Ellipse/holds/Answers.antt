@@ -17,4 +17,4 @@ returns c =
     let width = simp to_z-of_z at c.unsigned_abs.ensures.value in
     let height = simp to_z-of_z at c.unsigned_abs-2.ensures.value in
     in_ellipse-by c.args.self c.args.x c.args.y c.distance.result c.distance-2.result c.unsigned_abs.result c.unsigned_abs-2.result
-    c.is_within_ellipse.result (omega (arith, ints)) (omega (arith, ints)) across down width height c.is_within_ellipse.ensures
+    c.reaches.result (omega (arith, ints)) (omega (arith, ints)) across down width height c.reaches.ensures

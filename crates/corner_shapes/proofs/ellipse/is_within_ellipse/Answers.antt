@@ -1,6 +1,6 @@
 use Rattle.std.proofs.Common.{arith}
 use Rattle.corner_shapes.proofs.Products.{square_of_product}
-use Rattle.corner_shapes.proofs.rounded.is_within_ellipse.Goals as goal
+use Rattle.corner_shapes.proofs.ellipse.is_within_ellipse.Goals as goal
 
 pub overflow_add-result : goal.overflow_add-result
 overflow_add-result c =
