@@ -1,8 +1,8 @@
 -- Ways down to items: the lesser of two ways leads to the earlier item of the flattened list, and where each list
 -- stands once there is one way from the root list to an item.
-use Rattle.std.proofs.Common.{◌≡◌, ℕ, zero, suc, ◌≤◌, Bool, true, false, ◌&&◌, ◌||◌, inl, inr, List, [], ◌∷◌, length, Option, Some, None, Ordering, Less, Equal, Greater, cond, IsSome, eqb, ltb, slice_get, unwrap_or, reverse, refl, sym, ap, ◌∙◌, subst, arith}
+use Rattle.std.proofs.Common.{◌≡◌, ℕ, zero, suc, ◌+◌, ◌≤◌, Bool, true, false, ◌&&◌, ◌||◌, inl, inr, List, [], ◌∷◌, length, Option, Some, None, Ordering, Less, Equal, Greater, cond, IsSome, eqb, ltb, slice_get, unwrap_or, reverse, refl, sym, ap, ◌∙◌, subst, arith}
 use Rattle.std.proofs.Math.Bool.{or-false, and-false}
-use Rattle.std.proofs.lemmas.Bool.{or_cases, and_parts, and_from, false≢true, eqb-true, eq-eqb, ltb-true, lt-ltb, cases_eq}
+use Rattle.std.proofs.lemmas.Bool.{or_cases, and_parts, and_from, false≢true, eqb-true, eq-eqb, ltb-true, lt-ltb, le-ltb, cases_eq}
 use Rattle.std.proofs.lemmas.List.{reverse-reverse}
 use Rattle.std.proofs.lemmas.Option.{none-some, same_Some}
 use mathlib.Core.List.{reverse_aux}
@@ -37,6 +37,17 @@ slices-less [] (k ∷ ks) = refl
 slices-less (j ∷ js) [] = refl
 slices-less (j ∷ js) (k ∷ ks) =
     less_by_tests (ltb j k) (eqb j k) (slice_partial_cmp (λ x y. Some (nat_cmp x y)) js ks) _ (slices-less js ks)
+
+-- a front that two ways share decides nothing
+less_after : (rs js ks : List ℕ) → is_less (reverse_aux rs js) (reverse_aux rs ks) ≡ is_less js ks
+less_after [] js ks = refl
+less_after (r ∷ rs) js ks = less_after rs (r ∷ js) (r ∷ ks) ∙ less_same r js ks
+  where
+    less_same : (r : ℕ) (js ks : List ℕ) → is_less (r ∷ js) (r ∷ ks) ≡ is_less js ks
+    less_same r js ks = ap (λ t. t || (eqb r r && is_less js ks)) (le-ltb r r (omega arith)) ∙ ap (λ t. t && is_less js ks) (eq-eqb r r refl)
+
+less_ends : (a b : ℕ) → is_less (a ∷ []) (b ∷ []) ≡ ltb a b
+less_ends a b = ap (λ t. ltb a b || t) (and-false (eqb a b)) ∙ or-false (ltb a b)
 
 less-nil : (js : List ℕ) → is_less js [] ≡ false
 less-nil [] = refl
@@ -274,26 +285,18 @@ module _ (lists : Lists) where
   same_tests false true f g = g refl
   same_tests false false f g = refl
 
-  -- an item's way from the root list is the only one
-  pub only_way : (tables : PlaceTables) (root i n : ℕ) (ks : List ℕ) → ArePlaced lists tables
-      → IsWhole lists root → NestWithin n lists → LeadsTo lists root ks i
-      → (js : List ℕ) → LeadsTo lists root js i → js ≡ ks
-  only_way tables root i n ks placed whole shallow way = λ js other.
-      same_way tables placed root (root_stands_nowhere root i n whole shallow (standing-from_way root ks i way))
-      js ks i other way
-
-  pub order_of_ways : (root i j n : ℕ) (js ks : List ℕ) → NestWithin n lists
-      → LeadsTo lists root js i → LeadsTo lists root ks j
-      → ((ways : List ℕ) → LeadsTo lists root ways i → ways ≡ js)
-      → ((ways : List ℕ) → LeadsTo lists root ways j → ways ≡ ks)
+  pub order_of_ways : (tables : PlaceTables) (root i j n : ℕ) (js ks : List ℕ) → ArePlaced lists tables
+      → IsWhole lists root → NestWithin n lists → LeadsTo lists root js i → LeadsTo lists root ks j
       → is_less js ks ≡ is_earlier i j (flattened n lists root)
-  order_of_ways root i j n js ks shallow first second only_first only_second =
+  order_of_ways tables root i j n js ks placed whole shallow first second =
+      let free = root_stands_nowhere root i n whole shallow (standing-from_way root js i first) in
       let lesser = λ (h : is_less js ks ≡ true). earlier-from_ways n root js ks i j first second
       (length_way n root js i (shallow root) first) (length_way n root ks j (shallow root) second) h in
       let earlier = λ (h : is_earlier i j (flattened n lists root) ≡ true).
       let ways = ways-from_earlier n root i j h in
-      ap (λ xs. is_less xs ks) (sym (only_first ways.0 ways.2))
-      ∙ ap (is_less ways.0) (sym (only_second ways.1 ways.3)) ∙ ways.4 in
+      let one = same_way tables placed root free js ways.0 i first ways.2 in
+      let two = same_way tables placed root free ks ways.1 j second ways.3 in
+      ap (λ xs. is_less xs ks) one ∙ ap (is_less ways.0) two ∙ ways.4 in
       same_tests _ _ lesser earlier
 
   -- ---- one step up
@@ -306,3 +309,37 @@ module _ (lists : Lists) where
   pub first_way : (l k i : ℕ) → StandsAt lists (Item i) l k → LeadsTo lists l (k ∷ []) i
   unfolding LeadsTo
   first_way l k i at = inl (refl, at)
+
+  -- ---- two items of one list
+
+  -- from a list in which an item stands one comes up to the root list, since no way is longer than lists nest
+  climb_from : (root i n m l : ℕ) (ks : List ℕ) → IsWhole lists root → NestWithin n lists → LeadsTo lists l ks i
+      → length ks + m ≡ suc n → (rs : List ℕ) × Climbs root rs l
+  climb_from root i n zero l ks whole shallow way size =
+      let short = length_way n l ks i (shallow l) way in absurd (omega arith)
+  climb_from root i n (suc m) l ks whole shallow way size =
+      elim (cases_eq l root) [
+        | inl e ↦ ([], e)
+        | inr e ↦
+            let above = whole l (there-from_way l ks i way) e in
+            let rest = climb_from root i n m above.0 (above.1 ∷ ks) whole shallow
+            (way_up l above.0 above.1 ks i way above.2) (omega arith) in
+            (above.1 ∷ rest.0, (above.0, above.2, rest.1))
+      ]
+
+  -- and the way back leads down to the item
+  way_of_climb : (root l : ℕ) (rs ks : List ℕ) (i : ℕ) → Climbs root rs l → LeadsTo lists l ks i
+      → LeadsTo lists root (reverse_aux rs ks) i
+  way_of_climb root l [] ks i up way = subst (λ m. LeadsTo lists m ks i) up way
+  way_of_climb root l (r ∷ rs) ks i up way =
+      way_of_climb root up.0 rs (r ∷ ks) i up.2 (way_up l up.0 r ks i way up.1)
+
+  pub order_in_list : (tables : PlaceTables) (root i j n l a b : ℕ) → ArePlaced lists tables
+      → IsWhole lists root → NestWithin n lists → StandsAt lists (Item i) l a → StandsAt lists (Item j) l b
+      → ltb a b ≡ is_earlier i j (flattened n lists root)
+  order_in_list tables root i j n l a b placed whole shallow first second =
+      let up = climb_from root i n n l (a ∷ []) whole shallow (first_way l a i first) (omega arith) in
+      let one = way_of_climb root l up.0 (a ∷ []) i up.1 (first_way l a i first) in
+      let two = way_of_climb root l up.0 (b ∷ []) j up.1 (first_way l b j second) in
+      sym (less_after up.0 (a ∷ []) (b ∷ []) ∙ less_ends a b)
+      ∙ order_of_ways tables root i j n _ _ placed whole shallow one two

@@ -4,7 +4,7 @@ use Rattle.std.proofs.lemmas.Option.{none-some, same_Some, slice_get_within}
 use Rattle.paint_order.specs.declared.entry.Entry.{Entry}
 use Rattle.paint_order.specs.declared.entry.Entry.TheVariants.{Item, Sub}
 use Rattle.paint_order.specs.declared.place.Place.{Place}
-use Rattle.paint_order.specs.Lists.{Lists, list_under, entries_of, Stands, IsInRoom}
+use Rattle.paint_order.specs.Lists.{Lists, StandsAt, list_under, entries_of, Stands, IsInRoom}
 use Rattle.paint_order.specs.Places.{PlaceTables, place, place_of, ArePlaced}
 
 -- places that stay serve the same lists
@@ -53,8 +53,10 @@ pub room-from_standing : (lists : Lists) (tables : PlaceTables) (entry : Entry) 
 room-from_standing lists tables entry placed stands =
     room-from_place tables entry (place stands.0 stands.1) (placed stands.0 stands.1 entry stands.2)
 
-pub place-from_standing : (lists : Lists) (tables : PlaceTables) (entry : Entry) → ArePlaced lists tables
-    → (stands : Stands lists entry) (at : Place) → place_of tables entry ≡ Some at
-    → at ≡ place stands.0 stands.1
-place-from_standing lists tables entry placed stands at h =
-    same_Some _ _ (sym h ∙ placed stands.0 stands.1 entry stands.2)
+-- the place that is kept for what stands is where it stands
+pub stands-at_place : (lists : Lists) (tables : PlaceTables) (entry : Entry) → ArePlaced lists tables
+    → Stands lists entry → (at : Place) → place_of tables entry ≡ Some at → StandsAt lists entry at.list at.at
+stands-at_place lists tables entry placed stands at kept =
+    let here : at ≡ place stands.0 stands.1 =
+    same_Some _ _ (sym kept ∙ placed stands.0 stands.1 entry stands.2) in
+    subst (λ p. StandsAt lists entry p.list p.at) (sym here) stands.2

@@ -1,7 +1,7 @@
-ghost use Rattle.std.specs.Prelude.{◌≡◌, ◌≢◌, ◌+◌, ◌<◌, ◌≤◌, ℕ, List, [], ◌∷◌, ◌++◌, length, Some, None, IsSome, IfOk, IfErr, replicate, slice_set, vec_len, ◌-◌};
+ghost use Rattle.std.specs.Prelude.{◌≡◌, ◌≢◌, ◌+◌, ◌<◌, ◌≤◌, ℕ, [], ◌∷◌, ◌++◌, length, Some, None, IsSome, IfOk, IfErr, replicate, slice_set, vec_len, ◌-◌};
 ghost use Rattle.std.specs.List.{All};
 ghost use Rattle.paint_order.specs.declared.entry.Entry.TheVariants.{Item};
-ghost use Rattle.paint_order.specs.Lists.{list_under, Stands, IsInRoom, AreDistinct, StandNowhereElse};
+ghost use Rattle.paint_order.specs.Lists.{list_under, Stands, StandsAt, IsInRoom, AreDistinct, StandNowhereElse};
 ghost use Rattle.paint_order.specs.Order.{flattened, is_earlier, IsWhole, NestWithin};
 ghost use Rattle.paint_order.specs.Paths.{LeadsTo};
 ghost use Rattle.paint_order.specs.State.{list_room};
@@ -9,6 +9,7 @@ ghost use Rattle.paint_order.specs.State.{list_room};
 use crate::entry::Entry;
 use crate::memory::OutOfMemory;
 use crate::path::{MOST_LEVELS, Path};
+use crate::place::Place;
 use crate::places::Places;
 use fractions::{Ledger, Steps};
 use std::alloc::{AllocError, Global};
@@ -122,30 +123,37 @@ impl Forest {
         ensures cost { steps.new ≤ steps.old + 512 }
         ensures counts { steps.old ≤ steps.new }
     {
-        let first = self.path_to(i, steps);
-        let second = self.path_to(j, steps);
-        first.numbers() < second.numbers()
+        steps.tick();
+        let first = self.places.of(Entry::Item { item: i });
+        steps.tick();
+        let second = self.places.of(Entry::Item { item: j });
+        if first.list == second.list {
+            return first.at < second.at;
+        }
+        let first_path = self.path_to(first, steps);
+        let second_path = self.path_to(second, steps);
+        first_path.numbers() < second_path.numbers()
     }
 
-    /// The way down from the root list to an item.
-    fn path_to<L: Ledger>(&self, item: u32, steps: &mut Steps<L>) -> Path
+    /// The way down from the root list to a place where an item stands; a step for each list above that of the place.
+    fn path_to<L: Ledger>(&self, place: Place, steps: &mut Steps<L>) -> Path
         requires whole { IsWhole self.now.lists self.now.root }
         requires shallow { NestWithin 256 self.now.lists }
-        requires stands { Stands self.now.lists (Item item) }
-        ensures leads { LeadsTo self.now.lists self.now.root result item }
-        ensures only { (ks : List ℕ) → LeadsTo self.now.lists self.now.root ks item → ks ≡ result }
-        ensures cost { steps.new ≡ steps.old + length result }
+        requires item { (i : ℕ) × StandsAt self.now.lists (Item i) place.list place.at }
+        ensures leads { (i : ℕ) → StandsAt self.now.lists (Item i) place.list place.at
+            → LeadsTo self.now.lists self.now.root result i }
+        ensures cost { steps.new + 1 ≡ steps.old + length result }
         ensures length { length result ≤ 256 }
     {
         let mut path = Path::new();
-        let mut place = self.places.of(Entry::Item { item });
+        let mut above = place;
         for _ in 0..MOST_LEVELS {
-            steps.tick();
-            path.push_front(place.at);
-            if place.list == self.root {
+            path.push_front(above.at);
+            if above.list == self.root {
                 break;
             }
-            place = self.places.of(Entry::Sub { list: place.list });
+            steps.tick();
+            above = self.places.of(Entry::Sub { list: above.list });
         }
         path
     }
