@@ -20,7 +20,7 @@ placed-same old new tables same placed = λ l k entry at.
     placed l k entry (subst (λ o. slice_get (unwrap_or o []) k ≡ Some entry) (same l) at)
 
 -- numbers without a list at the end of a table
-under-none : (n k : ℕ) → list_under (replicate n None) k ≡ None
+pub under-none : (n k : ℕ) → list_under (replicate n None) k ≡ None
 under-none zero k = refl
 under-none (suc n) zero = refl
 under-none (suc n) (suc k) = under-none n k

@@ -29,3 +29,6 @@ mod places;
 pub use entry::Entry;
 pub use forest::Forest;
 pub use memory::OutOfMemory;
+
+#[cfg(test)]
+mod tests;
