@@ -1,6 +1,7 @@
 -- The kept places as the tables of lists and places grow.
-use Rattle.std.proofs.Common.{◌≡◌, ℕ, zero, suc, [], ◌∷◌, ◌++◌, length, Some, None, slice_get, unwrap_or, set, replicate, refl, sym, ap, ◌∙◌, subst}
+use Rattle.std.proofs.Common.{◌≡◌, ℕ, zero, suc, ◌<◌, IsSome, is_some, List, Option, arith, [], ◌∷◌, ◌++◌, length, Some, None, slice_get, unwrap_or, set, replicate, refl, sym, ap, ◌∙◌, subst}
 use Rattle.std.proofs.lemmas.Option.{none-some, same_Some, slice_get_within}
+use Rattle.std.proofs.lemmas.List.{get_or-set_same, length-replicate}
 use Rattle.paint_order.specs.declared.entry.Entry.{Entry}
 use Rattle.paint_order.specs.declared.entry.Entry.TheVariants.{Item, Sub}
 use Rattle.paint_order.specs.declared.place.Place.{Place}
@@ -60,3 +61,14 @@ stands-at_place lists tables entry placed stands at kept =
     let here : at ≡ place stands.0 stands.1 =
     same_Some _ _ (sym kept ∙ placed stands.0 stands.1 entry stands.2) in
     subst (λ p. StandsAt lists entry p.list p.at) (sym here) stands.2
+
+-- ---- the root list
+
+pub there-first : (n root : ℕ) → root < n → IsSome (list_under (set (replicate n None) root (Some [])) root)
+there-first n root low =
+    let size : length (replicate {A = Option (List Entry)} n None) ≡ n = length-replicate n None in
+    ap is_some (get_or-set_same {A = Option (List Entry)} (replicate n None) root (Some []) None (omega arith))
+
+pub there-longer : (lists : Lists) (n root : ℕ) → IsSome (list_under lists root)
+    → IsSome (list_under (lists ++ replicate n None) root)
+there-longer lists n root there = rw (under-longer lists n root) there

@@ -1,5 +1,5 @@
-use Rattle.std.specs.Prelude.{ℕ, ◌≤◌, length}
-use Rattle.paint_order.specs.Lists.{Lists}
+use Rattle.std.specs.Prelude.{ℕ, ◌≤◌, length, IsSome}
+use Rattle.paint_order.specs.Lists.{Lists, list_under}
 use Rattle.paint_order.specs.Places.{PlaceTables, ArePlaced}
 
 -- a forest: its lists under their numbers, the number of its root list, and how many items it has room for
@@ -12,7 +12,9 @@ pub record State : Type 0 where
 abbrev pub list_room : State → ℕ
 list_room forest = length forest.lists
 
--- the places that are kept are those of the lists, with one at least for each number below the list room
-pub record IsKept (lists : Lists) (places : PlaceTables) : Type 0 where
+-- The places that are kept are those of the lists, with one at least for each number below the list room; and the
+-- root list stands.
+pub record IsKept (lists : Lists) (places : PlaceTables) (root : ℕ) : Type 0 where
   pub room : length lists ≤ length places.lists
   pub placed : ArePlaced lists places
+  pub root_stands : IsSome (list_under lists root)

@@ -28,7 +28,9 @@ impl Model for Entries {
     ghost view = { λ e. e.0.items };
 }
 
-/// Lists of items and of lists, under numbers, with one root list.
+/// Lists of items and of lists, under numbers, with one root list. Contracts see the lists, the root list's number and
+/// the room, which is one past the greatest item number and list number that may be used. The places of the entries
+/// are kept beside the lists, so that a query reads no list.
 #[derive(Drop)]
 pub struct Forest {
     root: u32,
@@ -44,7 +46,7 @@ impl Model for Forest {
 
     ghost view = { λ f. record { lists = f.lists.items; root = f.root; item_room = length f.places.items } };
 
-    ghost invariant = { λ f. IsKept f.lists.items f.places };
+    ghost invariant = { λ f. IsKept f.lists.items f.places f.root };
 }
 
 impl Forest {
@@ -85,6 +87,8 @@ impl Forest {
         Ok(())
     }
 
+    /// Puts the entries under the number of the list, in place of those that stood there. All else stays. The numbers
+    /// are within the room, no entry comes twice, and none stands in another list. A step for each entry.
     pub fn put_list<L: Ledger>(&mut self, list: u32, entries: Vec<Entry>, steps: &mut Steps<L>)
         requires list { list < list_room self.old }
         requires room { All (IsInRoom self.old.item_room (list_room self.old)) entries.items }
@@ -97,6 +101,7 @@ impl Forest {
         self.lists[list as usize] = Some(Entries(entries));
     }
 
+    /// Drops a list that isn't the root list. All else stays. One step.
     pub fn drop_list<L: Ledger>(&mut self, list: u32, steps: &mut Steps<L>)
         requires stands { IsSome (list_under self.old.lists list) }
         requires not_root { list ≢ self.old.root }
@@ -107,6 +112,7 @@ impl Forest {
         self.lists[list as usize] = None;
     }
 
+    /// Makes a list the root list. All else stays.
     pub fn set_root(&mut self, list: u32)
         requires { IsSome (list_under self.old.lists list) }
         ensures { self.new ≡ record self.old { root = list } }
@@ -114,6 +120,10 @@ impl Forest {
         self.root = list;
     }
 
+    /// Whether item `i` comes earlier than item `j` in the flattened root list, in which each list is replaced by its
+    /// entries. Both stand in a list; each list other than the root list stands in a list too, so that every way up
+    /// ends at the root list; and lists nest at most 256 deep. At most 512 steps: one for each item and each list
+    /// whose place is read.
     pub fn before<L: Ledger>(&self, i: u32, j: u32, steps: &mut Steps<L>) -> bool
         requires whole { IsWhole self.now.lists self.now.root }
         requires shallow { NestWithin 256 self.now.lists }
