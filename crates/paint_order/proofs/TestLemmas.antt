@@ -135,7 +135,7 @@ lists_with {old} {new} {table} {root} {items} l o low has_old e =
       under = λ n. ap (λ f. list_under f.lists n) e ∙ written old.lists table l o has_old.under (omega arith) low n;
       root_is = ap (λ f. f.root) e ∙ has_old.root_is;
       items_fit = rw e has_old.items_fit;
-      lists_fit = rw (e, length-set, length-set) has_old.lists_fit;
+      lists_fit = rw e (simp length-set has_old.lists_fit);
     }
 
 pub lists_put : {old new : State} {table : Lists} {root items : ℕ} {given : List Entry} (l : ℕ) (entries : List Entry)

@@ -23,6 +23,7 @@ impl Model for Path {
 }
 
 impl Path {
+    /// No number yet.
     pub fn new() -> Path
         ensures { result ≡ [] }
     {
@@ -32,6 +33,7 @@ impl Path {
         }
     }
 
+    /// Puts a number at the front; there are at most 256.
     pub fn push_front(&mut self, number: usize)
         requires { length self.old < 256 }
         ensures { self.new ≡ number ∷ self.old }
@@ -40,6 +42,7 @@ impl Path {
         self.numbers[self.start] = number;
     }
 
+    /// The numbers from the root list down.
     pub fn numbers(&self) -> &[usize]
         ensures { result.now ≡ self.now }
     {

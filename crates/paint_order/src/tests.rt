@@ -55,22 +55,21 @@ fn nested_lists<L: Ledger>(
     Ok(())
 }
 
-/// List 0 holds item 0, list 1 and item 1, and list 1 holds item 2. Then room for item 3 is made, and list 0 is put
-/// anew: item 1, item 3, list 1, item 0.
+/// List 0 holds item 0, list 1 and item 1, and list 1 holds item 2. Then list 0 is put anew: item 1, item 3, list 1,
+/// item 0. More room changes nothing.
 fn list_put_anew<L: Ledger>(
     rt: &impl Abort,
     alloc: Global,
     steps: &mut Steps<L>,
 ) -> Result<(), Fail> {
     let mut forest = Forest::new(alloc, 0)?;
-    forest.reserve(3, 2)?;
+    forest.reserve(4, 2)?;
     forest.put_list(1, vec![in alloc; Item { item: 2 }]?, steps);
     forest.put_list(
         0,
         vec![in alloc; Item { item: 0 }, Sub { list: 1 }, Item { item: 1 }]?,
         steps,
     );
-    forest.reserve(4, 1)?;
     forest.put_list(
         0,
         vec![in alloc;
@@ -81,6 +80,7 @@ fn list_put_anew<L: Ledger>(
         ]?,
         steps,
     );
+    forest.reserve(9, 1)?;
     assert_order(rt, &forest, &[1, 3, 2, 0], steps);
     Ok(())
 }
