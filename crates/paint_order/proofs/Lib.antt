@@ -1,0 +1,4 @@
+pub mod FlatLemmas
+pub mod PathLemmas
+pub mod TableLemmas
+pub mod TestLemmas

@@ -1,0 +1,18 @@
+use Rattle.std.proofs.Common.{◌∷◌, [], refl}
+use Rattle.paint_order.specs.declared.entry.Entry.TheVariants.{Item, Sub}
+use Rattle.paint_order.proofs.TestLemmas.{lists_at_first, lists_put, whole-by_test, shallow-by_test, stand-by_test}
+use Rattle.paint_order.proofs.tests.nested_lists.Goals as goal
+
+pub assert_order-requires : goal.assert_order-requires
+assert_order-requires g c =
+    let start = lists_at_first c.in_ok-forest.forest c.reserve.new.self 6 3 c.in_ok-forest.ensures
+    c.reserve.ensures.lists c.reserve.ensures.root c.in_ok-reserve.ensures.item_room c.in_ok-reserve.ensures.list_room in
+    let one = lists_put 3 (Item 4 ∷ []) start c.put_list.ensures.put c.in_ok-vec.ensures.items refl in
+    let two = lists_put 1 (Item 2 ∷ []) one c.put_list-2.ensures.put c.in_ok-vec-2.ensures.items refl in
+    let three = lists_put 2 (Item 3 ∷ Sub 3 ∷ Item 0 ∷ []) two c.put_list-3.ensures.put c.in_ok-vec-3.ensures.items refl in
+    let four = lists_put 0 (Item 5 ∷ Sub 2 ∷ Item 1 ∷ Sub 1 ∷ []) three c.put_list-4.ensures.put c.in_ok-vec-4.ensures.items refl in
+    record {
+      whole = whole-by_test four refl;
+      shallow = shallow-by_test 255 four refl;
+      stand = stand-by_test four (5 ∷ 3 ∷ 4 ∷ 0 ∷ 1 ∷ 2 ∷ []) refl;
+    }

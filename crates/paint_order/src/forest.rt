@@ -1,0 +1,183 @@
+ghost use Rattle.std.specs.Prelude.{◌≡◌, ◌≢◌, ◌+◌, ◌<◌, ◌≤◌, ℕ, [], ◌∷◌, ◌++◌, length, Some, None, IsSome, IfOk, IfErr, replicate, slice_set, vec_len, ◌-◌};
+ghost use Rattle.std.specs.List.{All};
+ghost use Rattle.paint_order.specs.declared.entry.Entry.TheVariants.{Item};
+ghost use Rattle.paint_order.specs.Lists.{list_under, Stands, StandsAt, IsInRoom, AreDistinct, StandNowhereElse};
+ghost use Rattle.paint_order.specs.Order.{flattened, is_earlier, IsWhole, NestWithin};
+ghost use Rattle.paint_order.specs.Paths.{LeadsTo};
+ghost use Rattle.paint_order.specs.State.{list_room};
+
+use crate::entry::Entry;
+use crate::memory::OutOfMemory;
+use crate::path::{MOST_LEVELS, Path};
+use crate::place::Place;
+use crate::places::Places;
+use fractions::{Ledger, Steps};
+use std::alloc::{AllocError, Global};
+use std::marker::Model;
+
+/// The entries of a list from bottom to top; contracts see the list.
+#[derive(Drop)]
+struct Entries(Vec<Entry>);
+
+impl Model for Entries {
+    ghost use Rattle.std.specs.Prelude.{List};
+    ghost use Rattle.paint_order.specs.declared.entry.Entry.{Entry};
+
+    ghost Value = { List Entry };
+
+    ghost view = { λ e. e.0.items };
+}
+
+/// Lists of items and of lists, under numbers, with one root list. Contracts see the lists, the root list's number and
+/// the room, which is one past the greatest item number and list number that may be used. The places of the entries
+/// are kept beside the lists, so that a query reads no list.
+#[derive(Drop)]
+pub struct Forest {
+    root: u32,
+    lists: Vec<Option<Entries>>,
+    places: Places,
+}
+
+impl Model for Forest {
+    ghost use Rattle.std.specs.Prelude.{length};
+    ghost use Rattle.paint_order.specs.State.{State, IsKept};
+
+    ghost Value = { State };
+
+    ghost view = { λ f. record { lists = f.lists.items; root = f.root; item_room = length f.places.items } };
+
+    ghost invariant = { λ f. IsKept f.lists.items f.places f.root };
+}
+
+impl Forest {
+    /// A forest with an empty root list of this number, no other list, room for the list numbers up to it and for
+    /// no item.
+    pub fn new(alloc: Global, root: u32) -> Result<Forest, OutOfMemory>
+        requires { root ≤ 1_048_576 }
+        ensures { IfOk result (λ forest. forest ≡ record {
+          lists = slice_set (replicate (root + 1) None) root (Some []);
+          root = root;
+          item_room = 0;
+        }) }
+    {
+        let mut places = Places::new(alloc);
+        places.reserve(0, root + 1)?;
+        let mut lists = Vec::new(alloc);
+        lengthen(&mut lists, root as usize + 1)?;
+        lists[root as usize] = Some(Entries(Vec::new(alloc)));
+        Ok(Forest {
+            root,
+            lists,
+            places,
+        })
+    }
+
+    /// Makes room for the item numbers below `items` and the list numbers below `lists`. The lists and the root list
+    /// stay as they are, whatever the answer.
+    pub fn reserve(&mut self, items: u32, lists: u32) -> Result<(), OutOfMemory>
+        ensures lists { (n : ℕ) → list_under self.new.lists n ≡ list_under self.old.lists n }
+        ensures root { self.new.root ≡ self.old.root }
+        ensures item_room { IfOk result (λ _. items ≤ self.new.item_room) }
+        ensures list_room { IfOk result (λ _. lists ≤ list_room self.new) }
+        ensures no_fewer_items { self.old.item_room ≤ self.new.item_room }
+        ensures no_fewer_lists { list_room self.old ≤ list_room self.new }
+    {
+        self.places.reserve(items, lists)?;
+        lengthen(&mut self.lists, lists as usize)?;
+        Ok(())
+    }
+
+    /// Puts the entries under the number of the list, in place of those that stood there. All else stays. The numbers
+    /// are within the room, no entry comes twice, and none stands in another list. A step for each entry.
+    pub fn put_list<L: Ledger>(&mut self, list: u32, entries: Vec<Entry>, steps: &mut Steps<L>)
+        requires list { list < list_room self.old }
+        requires room { All (IsInRoom self.old.item_room (list_room self.old)) entries.items }
+        requires distinct { AreDistinct entries.items }
+        requires nowhere_else { StandNowhereElse self.old.lists list entries.items }
+        ensures put { self.new ≡ record self.old { lists = slice_set self.old.lists list (Some entries.items) } }
+        ensures cost { steps.new ≡ steps.old + length entries.items }
+    {
+        self.places.put_all(list, &entries, steps);
+        self.lists[list as usize] = Some(Entries(entries));
+    }
+
+    /// Drops a list that isn't the root list. All else stays. One step.
+    pub fn drop_list<L: Ledger>(&mut self, list: u32, steps: &mut Steps<L>)
+        requires stands { IsSome (list_under self.old.lists list) }
+        requires not_root { list ≢ self.old.root }
+        ensures gone { self.new ≡ record self.old { lists = slice_set self.old.lists list None } }
+        ensures cost { steps.new ≡ steps.old + 1 }
+    {
+        steps.tick();
+        self.lists[list as usize] = None;
+    }
+
+    /// Makes a list the root list. All else stays.
+    pub fn set_root(&mut self, list: u32)
+        requires { IsSome (list_under self.old.lists list) }
+        ensures { self.new ≡ record self.old { root = list } }
+    {
+        self.root = list;
+    }
+
+    /// Whether item `i` comes earlier than item `j` in the flattened root list, in which each list is replaced by its
+    /// entries. Both stand in a list; each list other than the root list stands in a list too, so that every way up
+    /// ends at the root list; and lists nest at most 256 deep. At most 512 steps: one for each item and each list
+    /// whose place is read.
+    pub fn before<L: Ledger>(&self, i: u32, j: u32, steps: &mut Steps<L>) -> bool
+        requires whole { IsWhole self.now.lists self.now.root }
+        requires shallow { NestWithin 256 self.now.lists }
+        requires first { Stands self.now.lists (Item i) }
+        requires second { Stands self.now.lists (Item j) }
+        ensures earlier { result ≡ is_earlier i j (flattened 256 self.now.lists self.now.root) }
+        ensures cost { steps.new ≤ steps.old + 512 }
+        ensures counts { steps.old ≤ steps.new }
+    {
+        steps.tick();
+        let first = self.places.of(Entry::Item { item: i });
+        steps.tick();
+        let second = self.places.of(Entry::Item { item: j });
+        if first.list == second.list {
+            return first.at < second.at;
+        }
+        let first_path = self.path_to(first, steps);
+        let second_path = self.path_to(second, steps);
+        first_path.numbers() < second_path.numbers()
+    }
+
+    /// The way down from the root list to a place where an item stands; a step for each list above that of the place.
+    fn path_to<L: Ledger>(&self, place: Place, steps: &mut Steps<L>) -> Path
+        requires whole { IsWhole self.now.lists self.now.root }
+        requires shallow { NestWithin 256 self.now.lists }
+        requires item { (i : ℕ) × StandsAt self.now.lists (Item i) place.list place.at }
+        ensures leads { (i : ℕ) → StandsAt self.now.lists (Item i) place.list place.at
+            → LeadsTo self.now.lists self.now.root result i }
+        ensures cost { steps.new + 1 ≡ steps.old + length result }
+        ensures length { length result ≤ 256 }
+    {
+        let mut path = Path::new();
+        let mut above = place;
+        for _ in 0..MOST_LEVELS {
+            path.push_front(above.at);
+            if above.list == self.root {
+                break;
+            }
+            steps.tick();
+            above = self.places.of(Entry::Sub { list: above.list });
+        }
+        path
+    }
+}
+
+/// Lengthens a table of lists to a length, where it is shorter, by numbers without a list.
+fn lengthen(lists: &mut Vec<Option<Entries>>, len: usize) -> Result<(), AllocError>
+    ensures ok { IfOk result (λ _. lists.new.items ≡ lists.old.items ++ replicate (len - vec_len lists.old) None) }
+    ensures err { IfErr result (λ _. lists.new.items ≡ lists.old.items) }
+{
+    let missing = len.saturating_sub(lists.len());
+    lists.reserve(missing)?;
+    for _ in 0..missing {
+        lists.push_reserved(None);
+    }
+    Ok(())
+}
