@@ -9,6 +9,7 @@ ghost use Rattle.std.specs.Prelude.{◌≡◌, ◌<◌};
 use fractions::{Blank, Brand, Ledger, Steps};
 use hit_script::{Status, StdSink, StdSource, run};
 use std::process::ExitCode;
+use std::rt::Env;
 use std::{env, io};
 use tree_edits::Engine;
 
@@ -18,7 +19,7 @@ const WIDTH: i64 = 81920;
 const HEIGHT: i64 = 46080;
 
 // The words after the program's name. One that isn't UTF-8 is a word of no form.
-fn words_of(rt: &HostRuntime) -> Result<Vec<String>, Status> {
+fn words_of<R: Env + AllocGlobal>(rt: &R) -> Result<Vec<String>, Status> {
     let words = match env::args(rt) {
         Ok(words) => words,
         Err(error) if error.kind() == io::ErrorKind::OutOfMemory => return Err(Status::Memory),
@@ -30,7 +31,7 @@ fn words_of(rt: &HostRuntime) -> Result<Vec<String>, Status> {
         .map_err(|_| Status::Memory)
 }
 
-fn status_on<L: Ledger>(rt: &HostRuntime, blank: Blank) -> Status
+fn status_on<R: Env + AllocGlobal + Input + Print, L: Ledger>(rt: &R, blank: Blank) -> Status
     requires name { blank.name ≡ L.name }
     requires parts { blank.parts ≡ L.parts }
     requires some_parts { 0 < blank.parts }
@@ -61,10 +62,18 @@ fn status_on<L: Ledger>(rt: &HostRuntime, blank: Blank) -> Status
     )
 }
 
-fn main(rt: HostRuntime) -> ExitCode {
-    let status = status_on::<Brand>(&rt, Blank::new(1));
+// Runs the program, and answers the number that it ends with.
+fn number_on<R: Env + AllocGlobal + Input + Print + Eprint>(rt: &R) -> u8 {
+    let status = status_on::<R, Brand>(rt, Blank::new(1));
     if status == Status::Usage {
         let _ = eprintln!(rt; "usage: hitpage [--load N]");
     }
-    ExitCode::from(status.number())
+    status.number()
 }
+
+fn main(rt: HostRuntime) -> ExitCode {
+    ExitCode::from(number_on(&rt))
+}
+
+#[cfg(test)]
+mod tests;
