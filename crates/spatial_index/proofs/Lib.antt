@@ -1,0 +1,5 @@
+pub mod TimesLemmas
+pub mod LevelLemmas
+pub mod PlanLemmas
+pub mod GridLemmas
+pub mod ChangeLemmas
