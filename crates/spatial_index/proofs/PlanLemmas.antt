@@ -1,10 +1,10 @@
 -- The level of bounds, and the at most two columns and two rows of cells that they meet in it.
-use Rattle.std.proofs.Common.{◌≡◌, ◌≢◌, eq-eqb, ℕ, zero, suc, ◌+◌, ◌-◌, ◌*◌, ◌/◌, ◌%◌, ◌^◌, ◌<◌, ◌≤◌, Bool, true, false, cond, not, ◌&&◌, ◌||◌, eqb, leb, ltb, List, [], ◌∷◌, ◌++◌, map, length, refl, sym, ap, ◌∙◌, arith, add-zero, inl, inr, ℤ, pos, ◌-ℤ◌, ◌+ℤ◌, ◌≤ℤ◌, ◌<ℤ◌, unsigned_abs, int_le, to_z, of_z, w64}
+use Rattle.std.proofs.Common.{◌≡◌, ◌≢◌, eq-eqb, get_or, ℕ, zero, suc, ◌+◌, ◌-◌, ◌*◌, ◌/◌, ◌%◌, ◌^◌, ◌<◌, ◌≤◌, Bool, true, false, cond, not, ◌&&◌, ◌||◌, eqb, leb, ltb, List, [], ◌∷◌, ◌++◌, map, length, refl, sym, ap, ◌∙◌, arith, add-zero, inl, inr, ℤ, pos, ◌-ℤ◌, ◌+ℤ◌, ◌≤ℤ◌, ◌<ℤ◌, unsigned_abs, int_le, to_z, of_z, w64}
 use Rattle.std.specs.List.{range_with_len, flat_map, All}
 use Rattle.std.proofs.lemmas.Bool.Decides.{nat_tests, same_from_decides, Decides-like, Decides-and, Decides-eqb}
 use Rattle.std.proofs.lemmas.Int.{ints, by_lt_z, to_z-of_z, fits_signed_from_abs}
 use Rattle.std.proofs.lemmas.Nat.{pow-add, pow_pos, div_below, le-div, div-add-mod', mod_below, same_from_place, mul-add-lt}
-use Rattle.std.proofs.Math.Nat.{div-le_of_le-mul}
+use Rattle.std.proofs.Math.Nat.{div-le_of_le-mul, mul-le-mul_right}
 use Rattle.std.proofs.Math.Pow.{pow_mono}
 use Rattle.std.proofs.lemmas.List.Elements.{All-nil, All-cons, All-append}
 use Rattle.std.proofs.lemmas.List.Sums.{sum_by-cons, sum_by-append}
@@ -267,7 +267,7 @@ not_both : (bounds : Rect) → bounds.l <ℤ bounds.r → bounds.t <ℤ bounds.b
 not_both bounds across down (inl e) = omega (arith, ints)
 not_both bounds across down (inr e) = omega (arith, ints)
 
-by_points : {P : Type 0} (bounds : Rect) → (IsEmpty bounds → P) → ((IsEmpty bounds → ⊥) → P) → P
+pub by_points : {P : Type 0} (bounds : Rect) → (IsEmpty bounds → P) → ((IsEmpty bounds → ⊥) → P) → P
 by_points {P} bounds f g =
     by_lt_z bounds.l bounds.r
     (λ across. by_lt_z bounds.t bounds.b (λ down. g (λ empty. not_both bounds across down empty)) (λ e. f (inr e)))
@@ -280,7 +280,7 @@ times-cells_met-empty width bounds column row empty = rw (cells_met-empty width 
 last_column : (level : ℕ) (width r : ℤ) → pos 0 <ℤ r → r ≤ℤ (width +ℤ pos 1) → line_of level (r -ℤ pos 1) < line_count level width
 last_column level width r positive h = omega (arith, line_of-in_order level (r -ℤ pos 1) width (omega (arith, ints)) (omega (arith, ints)))
 
-is_met-some : (bounds : Rect) (column row : ℕ) → is_empty bounds ≡ false → is_met bounds (level_of bounds) column row ≡ (is_between (line_of (level_of bounds) bounds.l) (line_of (level_of bounds) (bounds.r -ℤ pos 1)) column && is_between (line_of (level_of bounds) bounds.t) (line_of (level_of bounds) (bounds.b -ℤ pos 1)) row)
+pub is_met-some : (bounds : Rect) (column row : ℕ) → is_empty bounds ≡ false → is_met bounds (level_of bounds) column row ≡ (is_between (line_of (level_of bounds) bounds.l) (line_of (level_of bounds) (bounds.r -ℤ pos 1)) column && is_between (line_of (level_of bounds) bounds.t) (line_of (level_of bounds) (bounds.b -ℤ pos 1)) row)
 unfolding is_met
 is_met-some bounds column row some = rw (some, eq-eqb (level_of bounds) (level_of bounds) refl)
 
@@ -330,3 +330,17 @@ pub highest_if_inside : (region : Region) (bounds : Rect) → IsSide region.heig
 highest_if_inside region bounds height (inl e) = inl e
 highest_if_inside region bounds height (inr i) =
     inr (record { from_left = i.from_left; from_top = i.from_top; to_right = i.to_right; to_bottom = omega (arith, ints, i.to_bottom, height.greatest) })
+
+-- the numbers of a block rise
+pub rising_two : (a b : ℕ) → a < b → (i : ℕ) → i + 1 < 2 → get_or (a ∷ b ∷ 0 ∷ 0 ∷ []) i 0 < get_or (a ∷ b ∷ 0 ∷ 0 ∷ []) (i + 1) 0
+rising_two a b h zero inside = h
+rising_two a b h (suc i) inside = absurd (omega arith)
+
+pub rising_four : (a b c d : ℕ) → a < b → b < c → c < d → (i : ℕ) → i + 1 < 4 → get_or (a ∷ b ∷ c ∷ d ∷ []) i 0 < get_or (a ∷ b ∷ c ∷ d ∷ []) (i + 1) 0
+rising_four a b c d h h' h'' zero inside = h
+rising_four a b c d h h' h'' (suc zero) inside = h'
+rising_four a b c d h h' h'' (suc (suc zero)) inside = h''
+rising_four a b c d h h' h'' (suc (suc (suc i))) inside = absurd (omega arith)
+
+pub next_row : (columns top bottom : ℕ) → top < bottom → top * columns + columns ≤ bottom * columns
+next_row columns top bottom h = omega (arith, mul-le-mul_right columns h)

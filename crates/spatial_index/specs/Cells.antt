@@ -1,9 +1,9 @@
 -- A region of whole units is cut into square cells, in ten levels. The cells of level 0 have a side of 2^12 units, and
 -- those of each further level are twice as long. A level's cells are numbered row by row.
-use Rattle.std.specs.Prelude.{ℕ, zero, suc, ◌+◌, ◌-◌, ◌*◌, ◌/◌, ◌^◌, ◌<◌, ◌≤◌, Bool, not, ◌&&◌, ◌||◌, ◌==◌, nat_le, int_le, if◌then◌else◌, ℤ, pos, ◌+ℤ◌, ◌-ℤ◌, ◌≤ℤ◌, ◌⊎◌, unsigned_abs, List, [], map, flat_map}
+use Rattle.std.specs.Prelude.{ℕ, zero, suc, ◌+◌, ◌-◌, ◌*◌, ◌/◌, ◌^◌, ◌<◌, ◌≤◌, Bool, not, ◌&&◌, ◌||◌, ◌==◌, nat_le, int_le, if◌then◌else◌, ℤ, pos, ◌+ℤ◌, ◌-ℤ◌, ◌≤ℤ◌, ◌⊎◌, ◌↔◌, ◌≡◌, IsTrue, unsigned_abs, List, [], map, flat_map}
 use Rattle.std.specs.List.{range_with_len}
 use Rattle.fractions.specs.declared.rect.Rect.{Rect}
-use Rattle.fractions.specs.Rect.{IsEmpty}
+use Rattle.fractions.specs.Rect.{IsEmpty, Holds}
 
 -- the side of a level's cells, in units
 abbrev pub side : (level : ℕ) → ℕ
@@ -88,6 +88,11 @@ pub record IsInside (region : Region) (bounds : Rect) : Type 0 where
 
 abbrev pub IsEmptyOrInside : Region → Rect → Type 0
 IsEmptyOrInside region bounds = IsEmpty bounds ⊎ IsInside region bounds
+
+-- a cell of the level of the bounds is one that they meet just where they hold a point that lies in it
+abbrev pub AreCellsOfPoints : Rect → Type 0
+AreCellsOfPoints bounds =
+    (column row : ℕ) → IsTrue (is_met bounds (level_of bounds) column row) ↔ ((x : ℤ) × (y : ℤ) × Holds bounds x y × (line_of (level_of bounds) x ≡ column) × (line_of (level_of bounds) y ≡ row))
 
 -- a width or a height that a region may have
 pub record IsSide (length : ℤ) : Type 0 where

@@ -1,7 +1,7 @@
 ghost use Rattle.std.specs.Prelude.{◌≡◌, ℕ, ◌+◌, ◌<◌, ◌==◌, position, OnOk, IfOk};
 ghost use Rattle.spatial_index.specs.Contents.{empty_cell, times, once_if};
 
-use crate::change::OutOfMemory;
+use crate::memory::OutOfMemory;
 use std::alloc::Global;
 use std::marker::Model;
 

@@ -1,11 +1,13 @@
 ghost use Rattle.std.specs.Prelude.{◌≡◌, ℕ, ◌+◌, ◌-◌, ◌*◌, ◌≤◌, ◌<◌, ℤ, pos, ◌≤ℤ◌, take, drop, replicate, length, slice_index, if◌then◌else◌, IfOk, OnOk, All};
+ghost use Rattle.fractions.specs.Rect.{IsEmpty};
 ghost use Rattle.spatial_index.specs.Cells.{IsCell, IsSide, IsEmptyOrInside, line_of, line_count, cell_number, level_of, is_met, cells_met};
 ghost use Rattle.spatial_index.specs.Contents.{cell_at, times, once_if, StandsBy, StandsNowhere, StandsAlike, IsReserved, AreOfDistinctItems, AreOfOthers};
 ghost use Rattle.spatial_index.specs.Moves.{PutsIn, TakesOut, KeepsItems, HasMoreRoom, HasRoomFor, Moves};
 
-use crate::change::{Cells, Change, OutOfMemory};
+use crate::change::Change;
 use crate::level::Level;
-use crate::plan::{cells_met, line_of};
+use crate::memory::OutOfMemory;
+use crate::plan::{Cells, cells_met, line_of};
 use fractions::{Ledger, Rect, Steps};
 use std::alloc::Global;
 use std::marker::Model;
@@ -69,7 +71,9 @@ impl Grid {
         ensures level { result.level ≡ level_of bounds.now }
         ensures cells { take result.count result.cells ≡ cells_met self.now.region.width bounds.now }
         ensures count { result.count ≤ 4 }
+        ensures rising { (i : ℕ) → i + 1 < result.count → slice_index result.cells i < slice_index result.cells (i + 1) }
         ensures rest { drop result.count result.cells ≡ replicate (4 - result.count) 0 }
+        ensures none { IsEmpty bounds.now → result.count ≡ 0 }
 
         // Which cells these are: those that `is_met` says, each once.
         ensures met { (column row : ℕ) → column < line_count result.level self.now.region.width →

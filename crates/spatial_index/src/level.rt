@@ -3,7 +3,7 @@ ghost use Rattle.spatial_index.specs.Contents.{empty_cell, times};
 ghost use Rattle.spatial_index.specs.Levels.{AreIn, HaveRoom, Stand, HasSameItems, HasPut, HasTaken, HasPromised};
 
 use crate::cell::Cell;
-use crate::change::OutOfMemory;
+use crate::memory::OutOfMemory;
 use std::alloc::Global;
 use std::marker::Model;
 

@@ -1,8 +1,17 @@
 ghost use Rattle.std.specs.Prelude.{◌≡◌, ℕ, ◌+◌, ◌-◌, ◌*◌, ◌≤◌, ◌<◌, ◌^◌, ℤ, pos, ◌≤ℤ◌, ◌<ℤ◌, ◌+ℤ◌, ◌-ℤ◌, take, drop, replicate, length, slice_index, IsTrue, false};
+ghost use Rattle.fractions.specs.Rect.{IsEmpty};
 ghost use Rattle.spatial_index.specs.Cells.{Region, side, line_of, line_count, is_large_enough, level_of, numbers_of, cells_met, highest_of, largest, IsInside, IsEmptyOrInside, IsSide};
 
-use crate::change::Cells;
 use fractions::Rect;
+
+/// The cells that bounds meet, in one level: their numbers stand in rising order in the first `count` places of
+/// `cells`, and the other places hold 0.
+#[derive(Clone, Copy, Debug, PartialEq, Eq)]
+pub struct Cells {
+    pub level: u8,
+    pub cells: [u32; 4],
+    pub count: u8,
+}
 
 // How many levels there are above level 0.
 const TOP_LEVEL: u8 = 9;
@@ -65,6 +74,7 @@ fn block(level: u8, columns: u32, left: u32, right: u32, top: u32, bottom: u32) 
     ensures count { result.count ≤ 4 }
     ensures numbers { take result.count result.cells ≡ numbers_of columns left right top bottom }
     ensures rest { drop result.count result.cells ≡ replicate (4 - result.count) 0 }
+    ensures rising { (i : ℕ) → i + 1 < result.count → slice_index result.cells i < slice_index result.cells (i + 1) }
 {
     let first = top * columns + left;
     let below = bottom * columns + left;
@@ -90,6 +100,8 @@ pub(crate) fn cells_met(width: i64, bounds: &Rect) -> Cells
     ensures count { result.count ≤ 4 }
     ensures numbers { take result.count result.cells ≡ cells_met width bounds.now }
     ensures rest { drop result.count result.cells ≡ replicate (4 - result.count) 0 }
+    ensures rising { (i : ℕ) → i + 1 < result.count → slice_index result.cells i < slice_index result.cells (i + 1) }
+    ensures none { IsEmpty bounds.now → result.count ≡ 0 }
 {
     if bounds.is_empty() {
         Cells {
@@ -113,6 +125,7 @@ fn some_cells_met(width: i64, bounds: &Rect) -> Cells
     ensures count { result.count ≤ 4 }
     ensures numbers { take result.count result.cells ≡ cells_met width bounds.now }
     ensures rest { drop result.count result.cells ≡ replicate (4 - result.count) 0 }
+    ensures rising { (i : ℕ) → i + 1 < result.count → slice_index result.cells i < slice_index result.cells (i + 1) }
 {
     let level = level_of(bounds);
     let columns = line_of(level, width) + 1;

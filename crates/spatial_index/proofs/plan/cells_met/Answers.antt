@@ -27,3 +27,6 @@ some_cells_met-requires-clause-across c =
 pub some_cells_met-requires-clause-down : goal.some_cells_met-requires-clause-down
 some_cells_met-requires-clause-down c =
     from_top_to_bottom c.args.bounds.now (λ empty. false≢true (sym c.if-is_empty.false ∙ c.is_empty.ensures.edges.1 empty))
+
+pub returns-else-is_empty-clause-none : goal.returns-else-is_empty-clause-none
+returns-else-is_empty-clause-none c empty = absurd (false≢true (sym c.if-is_empty.false ∙ c.is_empty.ensures.edges.1 empty))
