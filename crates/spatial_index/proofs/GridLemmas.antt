@@ -1,5 +1,5 @@
 -- What the edit of one level's cells is for the grid: the cells whose numbers were given are those that the bounds meet.
-use Rattle.std.proofs.Common.{◌≡◌, ◌≢◌, ℕ, suc, ◌+◌, ◌*◌, ◌/◌, ◌%◌, ◌<◌, ◌≤◌, Bool, true, false, cond, eqb, List, [], ◌∷◌, length, get_or, set, refl, sym, ap, ◌∙◌, arith, inl, inr, length-set, get_or-set_same, get_or-set_other, subst, replicate, ℤ, pos, ◌≤ℤ◌, Result, Ok, Err, OnOk}
+use Rattle.std.proofs.Common.{◌≡◌, ◌≢◌, ℕ, ◌+◌, ◌*◌, ◌/◌, ◌%◌, ◌<◌, ◌≤◌, Bool, true, false, cond, eqb, List, [], ◌∷◌, length, get_or, set, refl, sym, ap, ◌∙◌, arith, inl, inr, length-set, get_or-set_same, get_or-set_other, subst, replicate, ℤ, pos, ◌≤ℤ◌, Result, Ok, Err, OnOk}
 use Rattle.std.specs.List.{All}
 use Rattle.std.proofs.lemmas.Bool.Decides.{nat_tests, eqb_tells}
 use Rattle.std.proofs.lemmas.List.Elements.{All-head, All-tail}
@@ -7,11 +7,10 @@ use Rattle.std.proofs.lemmas.Bool.{cases_lt}
 use Rattle.std.proofs.lemmas.List.{get_or_read, get_or_past, get_or-replicate, length-replicate}
 use Rattle.std.proofs.lemmas.Nat.{div_below, div-add-mod', mod_below, mul-add-lt}
 use Rattle.fractions.specs.declared.rect.Rect.{Rect}
-use Rattle.spatial_index.specs.declared.change.Change.{Change}
-use Rattle.spatial_index.specs.Cells.{Region, IsCell, IsSide, line_of, line_count, cell_number, level_of, is_met}
-use Rattle.spatial_index.specs.Contents.{CellState, GridState, empty_cell, cell_at, times, once_if, StandsBy, StandsNowhere, StandsAlike}
+use Rattle.spatial_index.specs.Cells.{Region, IsCell, line_of, line_count, cell_number, level_of, is_met}
+use Rattle.spatial_index.specs.Contents.{CellState, GridState, empty_cell, cell_at, times, once_if, StandsBy, StandsNowhere}
 use Rattle.spatial_index.specs.Levels.{nth_cell, AreIn, HaveRoom, Stand, HasSameItems, HasPromised, HasPut, HasTaken}
-use Rattle.spatial_index.specs.Moves.{IsGrid, PutsIn, TakesOut, KeepsItems, HasMoreRoom, HasRoomFor, Moves, moved_if}
+use Rattle.spatial_index.specs.Moves.{IsGrid, PutsIn, TakesOut, KeepsItems, HasMoreRoom, HasRoomFor}
 use Rattle.spatial_index.proofs.TimesLemmas.{times-nil}
 use Rattle.spatial_index.proofs.PlanLemmas.{times-cons, is_met-elsewhere, line_of-in_order}
 
@@ -79,15 +78,15 @@ module _ (grid : GridState) (bounds : Rect) (level : ℕ) (numbers : List ℕ) (
   IsGrid-level : (cells : List CellState) → length cells ≡ length (level_at grid level) → IsGrid (with_level grid level cells)
   IsGrid-level cells same =
       record {
-          width = is_grid.width;
-          height = is_grid.height;
-          levels = length-set grid.levels level cells ∙ is_grid.levels;
-          cells =
-              λ l h.
-              elim (eqb_tells l level) [
-                  inl e ↦ rw e.1 (ap (λ (k : List CellState). length k) (get_or-set_same grid.levels level cells [] within_levels) ∙ (same ∙ is_grid.cells level plan.inside))
-                  | inr different ↦ ap (λ (k : List CellState). length k) (get_or-set_other grid.levels level l cells [] different.1) ∙ is_grid.cells l h
-              ];
+        width = is_grid.width;
+        height = is_grid.height;
+        levels = length-set grid.levels level cells ∙ is_grid.levels;
+        cells =
+            λ l h.
+            elim (eqb_tells l level) [
+              | inl e ↦ rw e.1 (ap (λ (k : List CellState). length k) (get_or-set_same grid.levels level cells [] within_levels) ∙ (same ∙ is_grid.cells level plan.inside))
+              | inr different ↦ ap (λ (k : List CellState). length k) (get_or-set_other grid.levels level l cells [] different.1) ∙ is_grid.cells l h
+            ];
       }
 
   AreIn-level : AreIn (level_at grid level) numbers
@@ -110,60 +109,60 @@ module _ (grid : GridState) (bounds : Rect) (level : ℕ) (numbers : List ℕ) (
   PutsIn-level : (cells : List CellState) (item : ℕ) → HasPut (level_at grid level) cells numbers item → PutsIn grid (with_level grid level cells) item bounds
   PutsIn-level cells item put =
       record {
-          region = refl;
-          items =
-              λ l column row cell other.
-              elim (eqb_tells l level) [
-                  inl e ↦ rw e.1 (rw (cell-same cells column row, cell_at-is grid level column row) (put.items (cell_number grid.region.width level column row) other ∙ ap (λ k. times other (nth_cell (level_at grid level) (cell_number grid.region.width level column row)).items + cond (eqb item other) k 0) (plan.met column row (rw e.1 at cell.in_columns))))
-                  | inr different ↦ rw (cell-other cells l column row different.1, none_met l column row different.1) (nothing_more (eqb item other) _)
-              ];
-          spare =
-              λ l column row cell.
-              elim (eqb_tells l level) [
-                  inl e ↦ rw e.1 (rw (cell-same cells column row, cell_at-is grid level column row) (ap (λ k. (nth_cell cells (cell_number grid.region.width level column row)).spare + k) (sym (plan.met column row (rw e.1 at cell.in_columns))) ∙ put.spare (cell_number grid.region.width level column row)))
-                  | inr different ↦ rw (cell-other cells l column row different.1, none_met l column row different.1) (omega arith)
-              ];
+        region = refl;
+        items =
+            λ l column row cell other.
+            elim (eqb_tells l level) [
+              | inl e ↦ rw e.1 (rw (cell-same cells column row, cell_at-is grid level column row) (put.items (cell_number grid.region.width level column row) other ∙ ap (λ k. times other (nth_cell (level_at grid level) (cell_number grid.region.width level column row)).items + cond (eqb item other) k 0) (plan.met column row (rw e.1 at cell.in_columns))))
+              | inr different ↦ rw (cell-other cells l column row different.1, none_met l column row different.1) (nothing_more (eqb item other) _)
+            ];
+        spare =
+            λ l column row cell.
+            elim (eqb_tells l level) [
+              | inl e ↦ rw e.1 (rw (cell-same cells column row, cell_at-is grid level column row) (ap (λ k. (nth_cell cells (cell_number grid.region.width level column row)).spare + k) (sym (plan.met column row (rw e.1 at cell.in_columns))) ∙ put.spare (cell_number grid.region.width level column row)))
+              | inr different ↦ rw (cell-other cells l column row different.1, none_met l column row different.1) (omega arith)
+            ];
       }
 
   TakesOut-level : (cells : List CellState) (item : ℕ) → HasTaken (level_at grid level) cells numbers item → TakesOut grid (with_level grid level cells) item bounds
   TakesOut-level cells item taken =
       record {
-          region = refl;
-          items =
-              λ l column row cell other.
-              elim (eqb_tells l level) [
-                  inl e ↦ rw e.1 (rw (cell-same cells column row, cell_at-is grid level column row) (ap (λ k. times other (nth_cell cells (cell_number grid.region.width level column row)).items + cond (eqb item other) k 0) (sym (plan.met column row (rw e.1 at cell.in_columns))) ∙ taken.items (cell_number grid.region.width level column row) other))
-                  | inr different ↦ rw (cell-other cells l column row different.1, none_met l column row different.1) (sym (nothing_more (eqb item other) _))
-              ];
-          spare =
-              λ l column row cell.
-              elim (eqb_tells l level) [
-                  inl e ↦ rw e.1 (rw (cell-same cells column row, cell_at-is grid level column row) (taken.spare (cell_number grid.region.width level column row)))
-                  | inr different ↦ ap (λ (state : CellState). state.spare) (cell-other cells l column row different.1)
-              ];
+        region = refl;
+        items =
+            λ l column row cell other.
+            elim (eqb_tells l level) [
+              | inl e ↦ rw e.1 (rw (cell-same cells column row, cell_at-is grid level column row) (ap (λ k. times other (nth_cell cells (cell_number grid.region.width level column row)).items + cond (eqb item other) k 0) (sym (plan.met column row (rw e.1 at cell.in_columns))) ∙ taken.items (cell_number grid.region.width level column row) other))
+              | inr different ↦ rw (cell-other cells l column row different.1, none_met l column row different.1) (sym (nothing_more (eqb item other) _))
+            ];
+        spare =
+            λ l column row cell.
+            elim (eqb_tells l level) [
+              | inl e ↦ rw e.1 (rw (cell-same cells column row, cell_at-is grid level column row) (taken.spare (cell_number grid.region.width level column row)))
+              | inr different ↦ ap (λ (state : CellState). state.spare) (cell-other cells l column row different.1)
+            ];
       }
 
   KeepsItems-level : (cells : List CellState) → HasSameItems (level_at grid level) cells → KeepsItems grid (with_level grid level cells)
   KeepsItems-level cells same =
       record {
-          region = refl;
-          items =
-              λ l column row cell.
-              elim (eqb_tells l level) [
-                  inl e ↦ rw e.1 (rw (cell-same cells column row, cell_at-is grid level column row) (same.items (cell_number grid.region.width level column row)))
-                  | inr different ↦ ap (λ (state : CellState). state.items) (cell-other cells l column row different.1)
-              ];
+        region = refl;
+        items =
+            λ l column row cell.
+            elim (eqb_tells l level) [
+              | inl e ↦ rw e.1 (rw (cell-same cells column row, cell_at-is grid level column row) (same.items (cell_number grid.region.width level column row)))
+              | inr different ↦ ap (λ (state : CellState). state.items) (cell-other cells l column row different.1)
+            ];
       }
 
   HasMoreRoom-level : (cells : List CellState) → HasPromised (level_at grid level) cells numbers → HasMoreRoom grid (with_level grid level cells) bounds
   HasMoreRoom-level cells promised =
       record {
-          spare =
-              λ l column row cell.
-              elim (eqb_tells l level) [
-                  inl e ↦ rw e.1 (rw (cell-same cells column row, cell_at-is grid level column row) (promised.spare (cell_number grid.region.width level column row) ∙ ap (λ k. (nth_cell (level_at grid level) (cell_number grid.region.width level column row)).spare + k) (plan.met column row (rw e.1 at cell.in_columns))))
-                  | inr different ↦ rw (cell-other cells l column row different.1, none_met l column row different.1) (omega arith)
-              ];
+        spare =
+            λ l column row cell.
+            elim (eqb_tells l level) [
+              | inl e ↦ rw e.1 (rw (cell-same cells column row, cell_at-is grid level column row) (promised.spare (cell_number grid.region.width level column row) ∙ ap (λ k. (nth_cell (level_at grid level) (cell_number grid.region.width level column row)).spare + k) (plan.met column row (rw e.1 at cell.in_columns))))
+              | inr different ↦ rw (cell-other cells l column row different.1, none_met l column row different.1) (omega arith)
+            ];
       }
 
 -- the same of a grid that is opened: `was` is `now`, as its fields are
@@ -205,9 +204,9 @@ module _ (was now : GridState) (same : was ≡ now) (bounds : Rect) (level : ℕ
 pub IsCell-point : (region : Region) (level : ℕ) (x y : ℤ) → level ≤ 9 → pos 0 ≤ℤ x → x ≤ℤ region.width → pos 0 ≤ℤ y → y ≤ℤ region.height → IsCell region level (line_of level x) (line_of level y)
 IsCell-point region level x y level_in left right top bottom =
     record {
-        in_levels = level_in;
-        in_columns = omega (arith, line_of-in_order level x region.width left right);
-        in_rows = omega (arith, line_of-in_order level y region.height top bottom);
+      in_levels = level_in;
+      in_columns = omega (arith, line_of-in_order level x region.width left right);
+      in_rows = omega (arith, line_of-in_order level y region.height top bottom);
     }
 
 pub cell-inside : (grid : GridState) (level column row : ℕ) → IsGrid grid → IsCell grid.region level column row → cell_number grid.region.width level column row < length (level_at grid level)

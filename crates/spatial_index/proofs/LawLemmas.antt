@@ -1,13 +1,13 @@
 -- Bounds meet the cells of the points that they hold.
-use Rattle.std.proofs.Common.{◌≡◌, ℕ, suc, ◌+◌, ◌*◌, ◌/◌, ◌<◌, ◌≤◌, Bool, true, false, ◌&&◌, not, eqb, leb, refl, sym, ap, ◌∙◌, arith, add-zero, inl, inr, ℤ, pos, ◌-ℤ◌, ◌≤ℤ◌, ◌<ℤ◌, unsigned_abs, IsTrue}
+use Rattle.std.proofs.Common.{◌≡◌, ℕ, ◌*◌, ◌<◌, ◌≤◌, Bool, true, false, ◌&&◌, refl, sym, ◌∙◌, arith, add-zero, inl, inr, ℤ, pos, ◌-ℤ◌, ◌≤ℤ◌, ◌<ℤ◌, unsigned_abs, IsTrue}
 use Rattle.std.proofs.lemmas.Bool.Decides.{nat_tests, eqb_tells}
 use Rattle.std.proofs.lemmas.Bool.{false≢true}
 use Rattle.std.proofs.lemmas.Int.{ints}
 use Rattle.std.proofs.lemmas.Nat.{div-add-mod', mod_below, div-mul-add}
 use Rattle.std.proofs.Math.Nat.{mul-le-mul_right}
 use Rattle.fractions.specs.declared.rect.Rect.{Rect}
-use Rattle.fractions.specs.Rect.{Holds, IsEmpty}
-use Rattle.spatial_index.specs.Cells.{side, line_of, is_empty, level_of, is_between, is_met, AreCellsOfPoints}
+use Rattle.fractions.specs.Rect.{Holds}
+use Rattle.spatial_index.specs.Cells.{side, line_of, level_of, is_between, is_met, AreCellsOfPoints}
 use Rattle.spatial_index.proofs.PlanLemmas.{side-ge, line_of-in_order, is_met-some, is_met-empty, is_empty-true, is_empty-false, by_points, from_left_to_right, from_top_to_bottom}
 
 first_of_column : (level : ℕ) (l r : ℤ) (column : ℕ) → pos 0 ≤ℤ l → l <ℤ r → line_of level l < column → column ≤ line_of level (r -ℤ pos 1) → (x : ℤ) × (l ≤ℤ x) × (x <ℤ r) × (line_of level x ≡ column)
@@ -23,8 +23,8 @@ first_of_column level l r column positive order low high =
 column_reached : (level : ℕ) (l r : ℤ) (column : ℕ) → pos 0 ≤ℤ l → l <ℤ r → line_of level l ≤ column → column ≤ line_of level (r -ℤ pos 1) → (x : ℤ) × (l ≤ℤ x) × (x <ℤ r) × (line_of level x ≡ column)
 column_reached level l r column positive order low high =
     elim (eqb_tells (line_of level l) column) [
-        inl same ↦ (l, omega (arith, ints), order, same.1)
-        | inr different ↦ first_of_column level l r column positive order (omega arith) high
+      | inl same ↦ (l, omega (arith, ints), order, same.1)
+      | inr different ↦ first_of_column level l r column positive order (omega arith) high
     ]
 
 abbrev Reaches : Rect → (column row : ℕ) → Type 0

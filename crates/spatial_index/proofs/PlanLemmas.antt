@@ -1,5 +1,5 @@
 -- The level of bounds, and the at most two columns and two rows of cells that they meet in it.
-use Rattle.std.proofs.Common.{◌≡◌, ◌≢◌, eq-eqb, get_or, ℕ, zero, suc, ◌+◌, ◌-◌, ◌*◌, ◌/◌, ◌%◌, ◌^◌, ◌<◌, ◌≤◌, Bool, true, false, cond, not, ◌&&◌, ◌||◌, eqb, leb, ltb, List, [], ◌∷◌, ◌++◌, map, length, refl, sym, ap, ◌∙◌, arith, add-zero, inl, inr, ℤ, pos, ◌-ℤ◌, ◌+ℤ◌, ◌≤ℤ◌, ◌<ℤ◌, unsigned_abs, int_le, to_z, of_z, w64}
+use Rattle.std.proofs.Common.{◌≡◌, ◌≢◌, eq-eqb, get_or, ℕ, zero, suc, ◌+◌, ◌-◌, ◌*◌, ◌/◌, ◌^◌, ◌<◌, ◌≤◌, Bool, true, false, cond, not, ◌&&◌, eqb, leb, ltb, List, [], ◌∷◌, ◌++◌, map, refl, sym, ap, ◌∙◌, arith, add-zero, inl, inr, ℤ, pos, ◌-ℤ◌, ◌+ℤ◌, ◌≤ℤ◌, ◌<ℤ◌, unsigned_abs, int_le, to_z, of_z, w64}
 use Rattle.std.specs.List.{range_with_len, flat_map, All}
 use Rattle.std.proofs.lemmas.Bool.Decides.{nat_tests, same_from_decides, Decides-like, Decides-and, Decides-eqb}
 use Rattle.std.proofs.lemmas.Int.{ints, by_lt_z, to_z-of_z, fits_signed_from_abs}
@@ -10,7 +10,7 @@ use Rattle.std.proofs.lemmas.List.Elements.{All-nil, All-cons, All-append}
 use Rattle.std.proofs.lemmas.List.Sums.{sum_by-cons, sum_by-append}
 use Rattle.fractions.specs.declared.rect.Rect.{Rect}
 use Rattle.fractions.specs.Rect.{IsEmpty}
-use Rattle.spatial_index.specs.Cells.{side, line_of, line_count, is_empty, is_large_enough, least_level, level_of, is_between, is_met, numbers_between, numbers_of, cells_met, Region, IsSide, IsInside, IsEmptyOrInside, largest, highest_of, cell_number}
+use Rattle.spatial_index.specs.Cells.{side, line_of, line_count, is_empty, is_large_enough, least_level, level_of, is_between, is_met, numbers_of, cells_met, Region, IsSide, IsInside, IsEmptyOrInside, largest, highest_of, cell_number}
 use Rattle.spatial_index.specs.Contents.{times, once_if}
 use Rattle.spatial_index.proofs.TimesLemmas.{times-nil}
 
@@ -165,10 +165,10 @@ cells_met-empty width bounds h = rw h
 pub IsInside-largest : (region : Region) (bounds : Rect) → IsSide region.width → IsSide region.height → IsInside region bounds → IsInside largest bounds
 IsInside-largest region bounds width height inside =
     record {
-        from_left = inside.from_left;
-        from_top = inside.from_top;
-        to_right = omega (arith, ints, inside.to_right, width.greatest);
-        to_bottom = omega (arith, ints, inside.to_bottom, height.greatest);
+      from_left = inside.from_left;
+      from_top = inside.from_top;
+      to_right = omega (arith, ints, inside.to_right, width.greatest);
+      to_bottom = omega (arith, ints, inside.to_bottom, height.greatest);
     }
 
 large_at_top : (bounds : Rect) → IsInside largest bounds → is_large_enough bounds 9 ≡ true
@@ -199,11 +199,11 @@ AreNear-inside bounds across down inside =
     let large : is_large_enough bounds (level_of bounds) ≡ true = rw least (least_level-large bounds 0 9 (large_at_top bounds inside)) in
     let fits = large_tells bounds (level_of bounds) large in
     record {
-        level = rw least (least_level-le bounds 0 9);
-        left_right = line_of-in_order (level_of bounds) bounds.l (bounds.r -ℤ pos 1) inside.from_left (omega (arith, ints));
-        right_left = line_of-near (level_of bounds) bounds.l bounds.r inside.from_left across fits.0;
-        top_bottom = line_of-in_order (level_of bounds) bounds.t (bounds.b -ℤ pos 1) inside.from_top (omega (arith, ints));
-        bottom_top = line_of-near (level_of bounds) bounds.t bounds.b inside.from_top down fits.1;
+      level = rw least (least_level-le bounds 0 9);
+      left_right = line_of-in_order (level_of bounds) bounds.l (bounds.r -ℤ pos 1) inside.from_left (omega (arith, ints));
+      right_left = line_of-near (level_of bounds) bounds.l bounds.r inside.from_left across fits.0;
+      top_bottom = line_of-in_order (level_of bounds) bounds.t (bounds.b -ℤ pos 1) inside.from_top (omega (arith, ints));
+      bottom_top = line_of-near (level_of bounds) bounds.t bounds.b inside.from_top down fits.1;
     }
 
 pub cells_met-some : (width : ℤ) (bounds : Rect) → is_empty bounds ≡ false → cells_met width bounds ≡ numbers_of (line_count (level_of bounds) width) (line_of (level_of bounds) bounds.l) (line_of (level_of bounds) (bounds.r -ℤ pos 1)) (line_of (level_of bounds) bounds.t) (line_of (level_of bounds) (bounds.b -ℤ pos 1))
@@ -228,14 +228,14 @@ pub record HaveSameBits (bounds : Rect) : Type 0 where
 pub HaveSameBits-inside : (bounds : Rect) → bounds.l <ℤ bounds.r → bounds.t <ℤ bounds.b → IsInside largest bounds → HaveSameBits bounds
 HaveSameBits-inside bounds across down inside =
     record {
-        left = same_bits bounds.l (omega (arith, ints));
-        top = same_bits bounds.t (omega (arith, ints));
-        right = same_bits bounds.r (omega (arith, ints));
-        bottom = same_bits bounds.b (omega (arith, ints));
-        width = same_bits (bounds.r -ℤ bounds.l) (omega (arith, ints));
-        height = same_bits (bounds.b -ℤ bounds.t) (omega (arith, ints));
-        last_x = same_bits (bounds.r -ℤ pos 1) (omega (arith, ints));
-        last_y = same_bits (bounds.b -ℤ pos 1) (omega (arith, ints));
+      left = same_bits bounds.l (omega (arith, ints));
+      top = same_bits bounds.t (omega (arith, ints));
+      right = same_bits bounds.r (omega (arith, ints));
+      bottom = same_bits bounds.b (omega (arith, ints));
+      width = same_bits (bounds.r -ℤ bounds.l) (omega (arith, ints));
+      height = same_bits (bounds.b -ℤ bounds.t) (omega (arith, ints));
+      last_x = same_bits (bounds.r -ℤ pos 1) (omega (arith, ints));
+      last_y = same_bits (bounds.b -ℤ pos 1) (omega (arith, ints));
     }
 
 -- bounds that are no wider than a level's cells fit where they are no higher

@@ -1,6 +1,6 @@
 -- What the edits of one level do to the lists of its cells. A number that stands in `numbers` stands there once, but
 -- nothing here rests on it: a cell is edited as often as its number stands there.
-use Rattle.std.specs.Prelude.{◌≡◌, ℕ, ◌+◌, ◌*◌, ◌≤◌, ◌<◌, ◌==◌, All, List, length, slice_index_or, if◌then◌else◌}
+use Rattle.std.specs.Prelude.{◌≡◌, ℕ, ◌+◌, ◌≤◌, ◌<◌, ◌==◌, All, List, length, slice_index_or, if◌then◌else◌}
 use Rattle.spatial_index.specs.Contents.{CellState, empty_cell, times}
 
 -- the cell with a number

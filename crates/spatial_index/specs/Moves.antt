@@ -1,8 +1,8 @@
 -- What one item's change does to a grid.
-use Rattle.std.specs.Prelude.{◌≡◌, ◌≢◌, ℕ, ◌+◌, ◌*◌, ◌≤◌, ◌==◌, if◌then◌else◌, Bool, List, [], length, slice_index_or}
+use Rattle.std.specs.Prelude.{◌≡◌, ◌≢◌, ℕ, ◌+◌, ◌*◌, ◌≤◌, ◌==◌, if◌then◌else◌, Bool, [], length, slice_index_or}
 use Rattle.fractions.specs.declared.rect.Rect.{Rect}
 use Rattle.spatial_index.specs.declared.change.Change.{Change}
-use Rattle.spatial_index.specs.Cells.{Region, IsCell, IsSide, line_count, is_met}
+use Rattle.spatial_index.specs.Cells.{IsCell, IsSide, line_count, is_met}
 use Rattle.spatial_index.specs.Contents.{GridState, cell_at, times, once_if, StandsBy, StandsAlike}
 
 -- ten levels, each with all its cells

@@ -8,5 +8,4 @@ ghost use Rattle.spatial_index.specs.Cells.{AreCellsOfPoints};
 /// point in each level meets every item whose bounds hold the point.
 pub fn cells_met_hold_points()
     ensures { (bounds : Rect) → pos 0 ≤ℤ bounds.l → pos 0 ≤ℤ bounds.t → AreCellsOfPoints bounds }
-{
-}
+{}

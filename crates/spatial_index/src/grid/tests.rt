@@ -12,25 +12,35 @@ const fn rect(l: i64, t: i64, r: i64, b: i64) -> Rect {
 }
 
 // Bounds, and the level, the numbers and the count of their cells.
+#[derive(Drop)]
 struct Row(Rect, u8, [u32; 4], u8);
-
-fn can_be_planned(grid: &Grid, bounds: &Rect) -> bool
-    ensures { IsTrue result → IsEmptyOrInside grid.now.region bounds.now }
-{
-    bounds.is_empty()
-        || 0 <= bounds.l
-            && 0 <= bounds.t
-            && bounds.r <= grid.width + 1
-            && bounds.b <= grid.height + 1
-}
 
 fn check_plans(rt: &impl Abort, grid: &Grid, rows: &[Row]) {
     for row in rows {
-        assert!(rt; can_be_planned(grid, &row.0));
-        let plan = grid.plan(&row.0);
-        assert_eq!(rt; plan.level, row.1, "the level of {:?}", row.0);
-        assert!(rt; plan.cells == row.2, "the cells of {:?}: {:?}", row.0, plan.cells);
-        assert_eq!(rt; plan.count, row.3, "the count of {:?}", row.0);
+        let bounds = row.0;
+        assert!(rt; 0 <= bounds.l);
+        assert!(rt; 0 <= bounds.t);
+        assert!(rt; bounds.r <= grid.width + 1);
+        assert!(rt; bounds.b <= grid.height + 1);
+        let plan = grid.plan(&bounds);
+        assert_eq!(rt; plan.level, row.1, "the level of {:?}", bounds);
+        assert!(rt;
+            plan.cells == row.2,
+            "the cells of {:?}: {:?}",
+            bounds,
+            plan.cells
+        );
+        assert_eq!(rt; plan.count, row.3, "the count of {:?}", bounds);
+    }
+}
+
+fn check_empty_plans(rt: &impl Abort, grid: &Grid, empty: &[Rect]) {
+    for bounds in empty {
+        assert!(rt; bounds.is_empty());
+        let plan = grid.plan(bounds);
+        assert_eq!(rt; plan.level, 0, "the level of {:?}", *bounds);
+        assert!(rt; plan.cells == [0; 4], "the cells of {:?}", *bounds);
+        assert_eq!(rt; plan.count, 0, "the count of {:?}", *bounds);
     }
 }
 
@@ -56,11 +66,15 @@ fn plans_at_the_edges_of_cells(rt: HostRuntime) -> Result<(), Fail> {
         Row(rect(8191, 0, 16384, 8192), 2, [0, 0, 0, 0], 1),
         Row(rect(3617, 0, 20001, 9001), 2, [0, 1, 0, 0], 2),
         Row(rect(0, 0, 20001, 9001), 3, [0, 0, 0, 0], 1),
-        Row(rect(5, 5, 5, 9), 0, [0, 0, 0, 0], 0),
-        Row(rect(9, 0, 3, 9000), 0, [0, 0, 0, 0], 0),
-        Row(rect(-7, -7, 90000, -8), 0, [0, 0, 0, 0], 0),
     ];
     check_plans(&rt, &grid, &rows);
+    let empty = [
+        NOWHERE,
+        rect(5, 5, 5, 9),
+        rect(9, 0, 3, 9000),
+        rect(-7, -7, 90000, -8),
+    ];
+    check_empty_plans(&rt, &grid, &empty);
     Ok(())
 }
 
@@ -82,8 +96,18 @@ fn plans_in_each_level(rt: HostRuntime) -> Result<(), Fail> {
         Row(rect(0, 0, 1048576, 1048576), 8, [0, 0, 0, 0], 1),
         Row(rect(1, 1, 1048577, 1048577), 8, [0, 1, 2, 3], 4),
         Row(rect(0, 0, 1048577, 1), 9, [0, 0, 0, 0], 1),
-        Row(rect(1048576, 1048576, 1048577, 1048577), 0, [66048, 0, 0, 0], 1),
-        Row(rect(1048575, 1048575, 1048577, 1048577), 0, [65790, 65791, 66047, 66048], 4),
+        Row(
+            rect(1048576, 1048576, 1048577, 1048577),
+            0,
+            [66048, 0, 0, 0],
+            1,
+        ),
+        Row(
+            rect(1048575, 1048575, 1048577, 1048577),
+            0,
+            [65790, 65791, 66047, 66048],
+            4,
+        ),
     ];
     check_plans(&rt, &grid, &rows);
     let smallest = Grid::new(rt.alloc(), 1, 1)?;
@@ -92,7 +116,13 @@ fn plans_in_each_level(rt: HostRuntime) -> Result<(), Fail> {
 }
 
 // Reserves and applies one change.
-fn change_one<L: Ledger>(grid: &mut Grid, item: u32, old: Rect, new: Rect, steps: &mut Steps<L>) -> Result<(), OutOfMemory>
+fn change_one<L: Ledger>(
+    grid: &mut Grid,
+    item: u32,
+    old: Rect,
+    new: Rect,
+    steps: &mut Steps<L>,
+) -> Result<(), OutOfMemory>
     requires old_bounds { IsEmptyOrInside grid.old.region old }
     requires new_bounds { IsEmptyOrInside grid.old.region new }
     requires there { StandsBy grid.old item old }
@@ -104,5 +134,136 @@ fn change_one<L: Ledger>(grid: &mut Grid, item: u32, old: Rect, new: Rect, steps
     let changes = [Change { item, old, new }];
     grid.reserve(&changes)?;
     grid.apply(&changes, steps);
+    Ok(())
+}
+
+// Round the corner where four cells of level 0 meet.
+const CORNER: Rect = Rect {
+    l: 4000,
+    t: 4000,
+    r: 5000,
+    b: 5000,
+};
+
+// A point of the second cell of level 0.
+const POINT: Rect = Rect {
+    l: 4096,
+    t: 0,
+    r: 4097,
+    b: 1,
+};
+
+// As wide as the region, so that it needs level 3.
+const WIDE: Rect = Rect {
+    l: 0,
+    t: 0,
+    r: 20001,
+    b: 1,
+};
+
+fn come_move_and_go<L: Ledger>(
+    rt: &impl Abort,
+    alloc: Global,
+    blank: Blank,
+) -> Result<(), OutOfMemory>
+    requires name { blank.name ≡ L.name }
+    requires parts { blank.parts ≡ L.parts }
+    requires some_parts { 0 < blank.parts }
+{
+    let mut steps = Steps::<L>::new(blank);
+    let mut grid = Grid::new(alloc, 20000, 9000)?;
+    change_one(&mut grid, 7, NOWHERE, CORNER, &mut steps)?;
+    assert_eq!(rt; grid.visit(4000, 4000, 0, &mut steps), [7].as_slice());
+    assert_eq!(rt; grid.visit(8191, 4095, 0, &mut steps), [7].as_slice());
+    assert_eq!(rt; grid.visit(0, 4096, 0, &mut steps), [7].as_slice());
+    assert_eq!(rt; grid.visit(8191, 8191, 0, &mut steps), [7].as_slice());
+    assert!(rt; grid.visit(8192, 4000, 0, &mut steps).is_empty());
+    assert!(rt; grid.visit(4000, 8192, 0, &mut steps).is_empty());
+    assert!(rt; grid.visit(4000, 4000, 1, &mut steps).is_empty());
+    change_one(&mut grid, 8, NOWHERE, POINT, &mut steps)?;
+    assert_eq!(rt; grid.visit(4096, 0, 0, &mut steps), [7, 8].as_slice());
+    change_one(&mut grid, 7, CORNER, WIDE, &mut steps)?;
+    assert_eq!(rt; grid.visit(4096, 0, 0, &mut steps), [8].as_slice());
+    assert!(rt; grid.visit(0, 0, 0, &mut steps).is_empty());
+    assert_eq!(rt; grid.visit(20000, 9000, 3, &mut steps), [7].as_slice());
+    change_one(&mut grid, 7, WIDE, NOWHERE, &mut steps)?;
+    assert!(rt; grid.visit(20000, 9000, 3, &mut steps).is_empty());
+    assert_eq!(rt; grid.visit(4096, 0, 0, &mut steps), [8].as_slice());
+    Ok(())
+}
+
+#[test]
+fn items_come_move_and_go(rt: HostRuntime) -> Result<(), Fail> {
+    come_move_and_go::<Brand>(&rt, rt.alloc(), Blank::new(1))?;
+    Ok(())
+}
+
+// In the first and in the last cell of level 0.
+const FIRST: Rect = Rect {
+    l: 0,
+    t: 0,
+    r: 100,
+    b: 100,
+};
+
+const LAST: Rect = Rect {
+    l: 19000,
+    t: 8200,
+    r: 20001,
+    b: 9001,
+};
+
+fn rebuild_and_change<L: Ledger>(
+    rt: &impl Abort,
+    alloc: Global,
+    blank: Blank,
+) -> Result<(), OutOfMemory>
+    requires name { blank.name ≡ L.name }
+    requires parts { blank.parts ≡ L.parts }
+    requires some_parts { 0 < blank.parts }
+{
+    let mut steps = Steps::<L>::new(blank);
+    let items = [
+        Change {
+            item: 1,
+            old: LAST,
+            new: FIRST,
+        },
+        Change {
+            item: 2,
+            old: NOWHERE,
+            new: FIRST,
+        },
+    ];
+    let mut grid = Grid::rebuilt(alloc, 20000, 9000, &items)?;
+    assert_eq!(rt; grid.visit(0, 0, 0, &mut steps), [1, 2].as_slice());
+    assert!(rt; grid.visit(20000, 9000, 0, &mut steps).is_empty());
+    let changes = [
+        Change {
+            item: 1,
+            old: FIRST,
+            new: LAST,
+        },
+        Change {
+            item: 2,
+            old: FIRST,
+            new: NOWHERE,
+        },
+        Change {
+            item: 3,
+            old: NOWHERE,
+            new: LAST,
+        },
+    ];
+    grid.reserve(&changes)?;
+    grid.apply(&changes, &mut steps);
+    assert!(rt; grid.visit(0, 0, 0, &mut steps).is_empty());
+    assert_eq!(rt; grid.visit(20000, 9000, 0, &mut steps), [1, 3].as_slice());
+    Ok(())
+}
+
+#[test]
+fn a_grid_is_rebuilt_and_changed(rt: HostRuntime) -> Result<(), Fail> {
+    rebuild_and_change::<Brand>(&rt, rt.alloc(), Blank::new(1))?;
     Ok(())
 }

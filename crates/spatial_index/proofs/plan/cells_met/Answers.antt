@@ -1,8 +1,8 @@
-use Rattle.std.proofs.Common.{◌≡◌, arith, sym, ◌∙◌, Bool, true, false, IsTrue, to_z, of_z, w64}
+use Rattle.std.proofs.Common.{◌≡◌, sym, ◌∙◌, to_z, of_z, w64}
 use Rattle.std.proofs.lemmas.Int.{to_z-of_z}
 use Rattle.std.proofs.lemmas.Bool.{false≢true}
 use Rattle.fractions.specs.Rect.{IsEmpty}
-use Rattle.spatial_index.specs.Cells.{highest_of, IsInside}
+use Rattle.spatial_index.specs.Cells.{highest_of}
 use Rattle.spatial_index.proofs.PlanLemmas.{level_of-empty, cells_met-empty, is_empty-true, inside_if_some, from_left_to_right, from_top_to_bottom}
 use Rattle.spatial_index.proofs.plan.cells_met.Goals as goal
 

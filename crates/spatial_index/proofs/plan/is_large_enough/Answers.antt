@@ -1,5 +1,5 @@
-use Rattle.std.proofs.Common.{◌≡◌, ℤ, pos, ◌-ℤ◌, int_le, true, arith, sym, ◌∙◌, to_z, of_z, w64}
-use Rattle.spatial_index.specs.Cells.{side, is_large_enough}
+use Rattle.std.proofs.Common.{◌≡◌, pos, ◌-ℤ◌, int_le, true, to_z, of_z, w64}
+use Rattle.spatial_index.specs.Cells.{side}
 use Rattle.spatial_index.proofs.PlanLemmas.{HaveSameBits-inside, is_large_enough-wide, same_bits, side-le}
 use Rattle.spatial_index.proofs.plan.is_large_enough.Goals as goal
 

@@ -1,5 +1,4 @@
-use Rattle.std.proofs.Common.{◌≡◌, ℕ, ◌≤◌, ◌-◌, ◌∙◌, sym, refl, true, false, arith}
-use Rattle.spatial_index.specs.Cells.{least_level, level_of}
+use Rattle.std.proofs.Common.{◌≡◌, ◌∙◌, sym, arith}
 use Rattle.spatial_index.proofs.PlanLemmas.{least_level-here, least_level-next, least_level-last, level_of-some}
 use Rattle.spatial_index.proofs.plan.level_of.Goals as goal
 

@@ -1,6 +1,6 @@
-use Rattle.std.proofs.Common.{◌≡◌, ℕ, ◌+◌, ◌<◌, ◌≤◌, ℤ, pos, ◌≤ℤ◌, ◌-ℤ◌, unsigned_abs, arith, sym, ◌∙◌, to_z, of_z, w64}
+use Rattle.std.proofs.Common.{◌≡◌, ◌≤◌, pos, ◌-ℤ◌, arith}
 use Rattle.std.proofs.lemmas.Int.{ints}
-use Rattle.spatial_index.specs.Cells.{line_of, line_count, level_of, numbers_of, cells_met}
+use Rattle.spatial_index.specs.Cells.{line_of, level_of}
 use Rattle.spatial_index.proofs.PlanLemmas.{AreNear-inside, HaveSameBits-inside, cells_met-some, is_empty-false, line_of-in_order, same_bits, IsInside-largest_from_highest}
 use Rattle.spatial_index.proofs.plan.some_cells_met.Goals as goal
 

@@ -1,5 +1,3 @@
-use Rattle.std.proofs.Common.{◌≡◌, ap}
-use Rattle.spatial_index.specs.Contents.{CellState}
 use Rattle.spatial_index.proofs.TimesLemmas.{times_push}
 use Rattle.spatial_index.proofs.cell.Cell.put.Goals as goal
 

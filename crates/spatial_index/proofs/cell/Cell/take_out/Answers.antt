@@ -1,4 +1,4 @@
-use Rattle.std.proofs.Common.{◌≡◌, ℕ, ◌<◌, List, eqb, Option, Some, None, ◌∙◌, sym, ap, arith}
+use Rattle.std.proofs.Common.{◌≡◌, eqb, Some, None, ◌∙◌, sym, ap, arith}
 use Rattle.std.specs.List.{position}
 use Rattle.spatial_index.specs.Contents.{CellState, times}
 use Rattle.spatial_index.proofs.TimesLemmas.{times-Some, times-None}

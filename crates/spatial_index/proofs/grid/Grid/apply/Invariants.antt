@@ -4,6 +4,6 @@ use Rattle.spatial_index.proofs.grid.Grid.apply.Given as goal
 
 abbrev pub invariant-loop-change : goal.invariant-loop-change
 invariant-loop-change g l = record {
-    applied : AreApplied l.initial.self l.self l.changes l.change-index;
-    steps : l.steps ≡ l.initial.steps + l.change-index;
+  applied : AreApplied l.initial.self l.self l.changes l.change-index;
+  steps : l.steps ≡ l.initial.steps + l.change-index;
 }

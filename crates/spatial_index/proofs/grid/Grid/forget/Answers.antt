@@ -1,6 +1,6 @@
-use Rattle.std.proofs.Common.{◌<◌, ℕ, List, take, length, arith}
+use Rattle.std.proofs.Common.{take, arith}
 use Rattle.spatial_index.specs.Contents.{GridState}
-use Rattle.spatial_index.proofs.GridLemmas.{IsPlan, AreIn-opened, KeepsItems-opened, HasMoreRoom-opened, IsGrid-opened}
+use Rattle.spatial_index.proofs.GridLemmas.{IsPlan, AreIn-opened, KeepsItems-opened, IsGrid-opened}
 use Rattle.spatial_index.proofs.grid.Grid.forget.Goals as goal
 
 pub index_mut-level-requires : goal.index_mut-level-requires

@@ -1,7 +1,5 @@
-use Rattle.std.proofs.Common.{◌≡◌, ℕ, ◌*◌, ◌<◌, ◌≤◌, ℤ, get_or, List, [], replicate, arith, sym, to_z, of_z, w64}
-use Rattle.std.proofs.lemmas.Int.{to_z-of_z}
-use Rattle.spatial_index.specs.Cells.{line_count}
-use Rattle.spatial_index.specs.Contents.{GridState, empty_cell}
+use Rattle.std.proofs.Common.{arith, to_z, of_z, w64}
+use Rattle.spatial_index.specs.Contents.{GridState}
 use Rattle.spatial_index.proofs.GridLemmas.{StandsNowhere-new}
 use Rattle.spatial_index.proofs.grid.Grid.new.Goals as goal
 

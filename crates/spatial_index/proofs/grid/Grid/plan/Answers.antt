@@ -1,6 +1,6 @@
-use Rattle.std.proofs.Common.{◌≡◌, ℕ, ◌≤◌, ◌<◌, ℤ, take, arith, sym, ap, ◌∙◌, to_z, of_z, w64}
+use Rattle.std.proofs.Common.{◌≡◌, ◌<◌, ℤ, take, arith, ap, to_z, of_z, w64}
 use Rattle.std.proofs.lemmas.Int.{ints}
-use Rattle.spatial_index.specs.Cells.{IsSide, line_count, level_of, cells_met, highest_of}
+use Rattle.spatial_index.specs.Cells.{IsSide, line_count, level_of, cells_met}
 use Rattle.spatial_index.specs.Contents.{GridState}
 use Rattle.spatial_index.proofs.PlanLemmas.{times-cells_met, cells_met-within, highest_if_inside, same_bits}
 use Rattle.spatial_index.proofs.grid.Grid.plan.Goals as goal

@@ -1,4 +1,4 @@
-use Rattle.std.proofs.Common.{◌<◌, ℕ, List, take, length, arith}
+use Rattle.std.proofs.Common.{take, arith}
 use Rattle.spatial_index.specs.Contents.{GridState}
 use Rattle.spatial_index.proofs.GridLemmas.{IsPlan, AreIn-opened, KeepsItems-opened, HasMoreRoom-opened, IsGrid-opened, OnOk-map}
 use Rattle.spatial_index.proofs.grid.Grid.promise.Goals as goal
@@ -20,8 +20,8 @@ returns c =
     let was : GridState = record { region = record { width = c.self.inside.width; height = c.self.inside.height }; levels = c.self.inside.levels.items } in
     let plan : IsPlan now c.args.bounds.now c.from.result (take c.from-2.result c.plan-plan.result.cells) = rw (c.from.ensures, c.from-2.ensures) (record { inside = c.plan-plan.ensures.top_level; at = c.plan-plan.ensures.level; met = c.plan-plan.ensures.met; within = c.plan-plan.ensures.within }) in
     record {
-        same = KeepsItems-opened was now c.self.view_is c.args.bounds.now c.from.result (take c.from-2.result c.plan-plan.result.cells) c.index_mut-level.result.now c.promise.new.self c.self.invariant plan c.index_mut-level.ensures.value c.promise.ensures.same_items;
-        room = OnOk-map c.promise.result _ _ (HasMoreRoom-opened was now c.self.view_is c.args.bounds.now c.from.result (take c.from-2.result c.plan-plan.result.cells) c.index_mut-level.result.now c.promise.new.self c.self.invariant plan c.index_mut-level.ensures.value) c.promise.ensures.promised;
+      same = KeepsItems-opened was now c.self.view_is c.args.bounds.now c.from.result (take c.from-2.result c.plan-plan.result.cells) c.index_mut-level.result.now c.promise.new.self c.self.invariant plan c.index_mut-level.ensures.value c.promise.ensures.same_items;
+      room = OnOk-map c.promise.result _ _ (HasMoreRoom-opened was now c.self.view_is c.args.bounds.now c.from.result (take c.from-2.result c.plan-plan.result.cells) c.index_mut-level.result.now c.promise.new.self c.self.invariant plan c.index_mut-level.ensures.value) c.promise.ensures.promised;
     }
 
 pub invariant_of-self : goal.invariant_of-self

@@ -1,6 +1,4 @@
-use Rattle.std.proofs.Common.{◌≡◌, ◌<◌, ◌≤◌, length, get_or, take, List, arith}
 use Rattle.std.proofs.lemmas.List.{get_or_default, take_all}
-use Rattle.spatial_index.specs.Cells.{IsEmptyOrInside}
 use Rattle.spatial_index.proofs.ChangeLemmas.{AreReserved-none, AreReserved-more, KeepsItems-none, KeepsItems-then}
 use Rattle.spatial_index.proofs.grid.Grid.reserve.Goals as goal
 

@@ -1,6 +1,6 @@
-use Rattle.std.proofs.Common.{◌<◌, ℕ, List, take, length, arith}
+use Rattle.std.proofs.Common.{take, arith}
 use Rattle.spatial_index.specs.Contents.{GridState}
-use Rattle.spatial_index.proofs.GridLemmas.{IsPlan, in_levels, AreIn-opened, Stand-opened, TakesOut-opened, IsGrid-opened}
+use Rattle.spatial_index.proofs.GridLemmas.{IsPlan, AreIn-opened, Stand-opened, TakesOut-opened, IsGrid-opened}
 use Rattle.spatial_index.proofs.grid.Grid.take_out.Goals as goal
 
 pub index_mut-level-requires : goal.index_mut-level-requires
@@ -13,8 +13,8 @@ take_out-requires c =
     let was : GridState = record { region = record { width = c.self.inside.width; height = c.self.inside.height }; levels = c.self.inside.levels.items } in
     let plan : IsPlan now c.args.bounds.now c.from.result (take c.from-2.result c.plan-plan.result.cells) = rw (c.from.ensures, c.from-2.ensures) (record { inside = c.plan-plan.ensures.top_level; at = c.plan-plan.ensures.level; met = c.plan-plan.ensures.met; within = c.plan-plan.ensures.within }) in
     record {
-        cells = AreIn-opened was now c.self.view_is c.args.bounds.now c.from.result _ c.index_mut-level.result.now c.index_mut-level.result.now c.self.invariant plan c.index_mut-level.ensures.value;
-        there = Stand-opened was now c.self.view_is c.args.bounds.now c.from.result _ c.index_mut-level.result.now c.index_mut-level.result.now c.self.invariant plan c.index_mut-level.ensures.value c.args.item c.requires.there;
+      cells = AreIn-opened was now c.self.view_is c.args.bounds.now c.from.result _ c.index_mut-level.result.now c.index_mut-level.result.now c.self.invariant plan c.index_mut-level.ensures.value;
+      there = Stand-opened was now c.self.view_is c.args.bounds.now c.from.result _ c.index_mut-level.result.now c.index_mut-level.result.now c.self.invariant plan c.index_mut-level.ensures.value c.args.item c.requires.there;
     }
 
 pub returns : goal.returns

@@ -1,7 +1,7 @@
-use Rattle.std.proofs.Common.{◌≡◌, ℕ, ◌≤◌, ◌<◌, ◌+◌, ◌*◌, ℤ, pos, ◌≤ℤ◌, List, length, get_or, arith, sym, ap, ◌∙◌, to_z, of_z, w64}
+use Rattle.std.proofs.Common.{◌≡◌, ℤ, pos, ◌≤ℤ◌, get_or, arith, sym, ap, ◌∙◌, to_z, of_z, w64}
 use Rattle.std.proofs.lemmas.Int.{ints}
-use Rattle.spatial_index.specs.Cells.{IsCell, IsSide, line_of, line_count, cell_number}
-use Rattle.spatial_index.specs.Contents.{CellState, GridState, cell_at}
+use Rattle.spatial_index.specs.Cells.{IsSide, line_of, cell_number}
+use Rattle.spatial_index.specs.Contents.{CellState, GridState}
 use Rattle.spatial_index.specs.Levels.{nth_cell}
 use Rattle.spatial_index.proofs.PlanLemmas.{same_bits}
 use Rattle.spatial_index.proofs.GridLemmas.{level_at, IsCell-point, cell-inside, level_read-at, cell_at-is}

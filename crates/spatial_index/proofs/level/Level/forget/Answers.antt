@@ -1,6 +1,4 @@
-use Rattle.std.proofs.Common.{◌≡◌, ℕ, ◌<◌, List, length, get_or, take, arith, refl}
-use Rattle.std.proofs.lemmas.List.{take_all}
-use Rattle.spatial_index.specs.Contents.{CellState}
+use Rattle.std.proofs.Common.{◌<◌, length, get_or, arith, refl}
 use Rattle.spatial_index.proofs.LevelLemmas.{HasSameItems-more}
 use Rattle.spatial_index.proofs.level.Level.forget.Goals as goal
 

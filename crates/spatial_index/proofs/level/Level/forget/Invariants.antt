@@ -1,4 +1,3 @@
-use Rattle.std.proofs.Common.{take}
 use Rattle.spatial_index.specs.Levels.{HasSameItems}
 use Rattle.spatial_index.proofs.level.Level.forget.Given as goal
 

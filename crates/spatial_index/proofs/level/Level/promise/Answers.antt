@@ -1,7 +1,5 @@
-use Rattle.std.proofs.Common.{◌≡◌, ℕ, ◌<◌, List, length, get_or, take, arith, refl}
+use Rattle.std.proofs.Common.{◌<◌, length, get_or, arith, refl}
 use Rattle.std.proofs.lemmas.List.{take_all}
-use Rattle.std.proofs.lemmas.Result.{err_from_is_err_and}
-use Rattle.spatial_index.specs.Contents.{CellState}
 use Rattle.spatial_index.proofs.LevelLemmas.{HasSameItems-more, HasPromised-more, HasPromised-none}
 use Rattle.spatial_index.proofs.level.Level.promise.Goals as goal
 
@@ -18,8 +16,8 @@ loop-number-preserved c =
     let inside : get_or c.args.numbers.now c.loop-number.number-index 0 < length c.self.inside.cells.items = rw (← c.self.view_is) at (c.requires c.loop-number.number-index 0 c.loop-number-test.true) in
     let within : get_or c.args.numbers.now c.loop-number.number-index 0 < length c.loop-number.cells.items = omega (arith, c.loop-number.invariant.same.count, inside) in
     record {
-        same = HasSameItems-more c.self.inside.cells.items c.loop-number.cells.items c.args.numbers.now c.loop-number.number-index _ c.index_mut-cell.result.now c.promise.new.self c.loop-number-test.true refl within c.index_mut-cell.ensures.value c.promise.ensures.items c.loop-number.invariant.same;
-        promised = HasPromised-more c.self.inside.cells.items c.loop-number.cells.items c.args.numbers.now c.loop-number.number-index _ c.index_mut-cell.result.now c.promise.new.self c.loop-number-test.true refl within c.index_mut-cell.ensures.value c.in_ok-promise.ensures.spare c.loop-number.invariant.promised;
+      same = HasSameItems-more c.self.inside.cells.items c.loop-number.cells.items c.args.numbers.now c.loop-number.number-index _ c.index_mut-cell.result.now c.promise.new.self c.loop-number-test.true refl within c.index_mut-cell.ensures.value c.promise.ensures.items c.loop-number.invariant.same;
+      promised = HasPromised-more c.self.inside.cells.items c.loop-number.cells.items c.args.numbers.now c.loop-number.number-index _ c.index_mut-cell.result.now c.promise.new.self c.loop-number-test.true refl within c.index_mut-cell.ensures.value c.in_ok-promise.ensures.spare c.loop-number.invariant.promised;
     }
 
 pub returns-in_err-promise-clause-same_items : goal.returns-in_err-promise-clause-same_items

@@ -1,6 +1,5 @@
-use Rattle.std.proofs.Common.{◌≡◌, ℕ, ◌<◌, List, length, get_or, take, arith, refl}
+use Rattle.std.proofs.Common.{◌<◌, length, get_or, arith, refl}
 use Rattle.std.proofs.lemmas.List.{take_all}
-use Rattle.spatial_index.specs.Contents.{CellState}
 use Rattle.spatial_index.proofs.LevelLemmas.{HasPut-none, HasPut-more, has_room}
 use Rattle.spatial_index.proofs.level.Level.put.Goals as goal
 

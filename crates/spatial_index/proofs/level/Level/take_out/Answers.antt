@@ -1,6 +1,5 @@
-use Rattle.std.proofs.Common.{◌≡◌, ℕ, ◌<◌, List, length, get_or, take, arith, refl}
+use Rattle.std.proofs.Common.{◌<◌, length, get_or, arith, refl}
 use Rattle.std.proofs.lemmas.List.{take_all}
-use Rattle.spatial_index.specs.Contents.{CellState}
 use Rattle.spatial_index.proofs.LevelLemmas.{HasTaken-none, HasTaken-more, still_stands}
 use Rattle.spatial_index.proofs.level.Level.take_out.Goals as goal
 
