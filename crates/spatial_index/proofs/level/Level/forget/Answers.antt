@@ -1,0 +1,19 @@
+use Rattle.std.proofs.Common.{◌<◌, length, get_or, arith, refl}
+use Rattle.spatial_index.proofs.LevelLemmas.{HasSameItems-more}
+use Rattle.spatial_index.proofs.level.Level.forget.Goals as goal
+
+pub index_mut-cell-requires : goal.index_mut-cell-requires
+index_mut-cell-requires c =
+    let inside : get_or c.args.numbers.now c.loop-number.number-index 0 < length c.self.inside.cells.items = rw (← c.self.view_is) at (c.requires c.loop-number.number-index 0 c.loop-number-test.true) in
+    omega (arith, c.loop-number.invariant.count, inside, c.loop-number.cells.ok.0)
+
+pub loop-number-init : goal.loop-number-init
+loop-number-init c = record { count = refl; items = λ _. refl }
+
+pub loop-number-preserved : goal.loop-number-preserved
+loop-number-preserved c =
+    let inside : get_or c.args.numbers.now c.loop-number.number-index 0 < length c.self.inside.cells.items = rw (← c.self.view_is) at (c.requires c.loop-number.number-index 0 c.loop-number-test.true) in
+    HasSameItems-more c.self.inside.cells.items c.loop-number.cells.items c.args.numbers.now c.loop-number.number-index _ c.index_mut-cell.result.now c.forget.new.self c.loop-number-test.true refl (omega (arith, c.loop-number.invariant.count, inside)) c.index_mut-cell.ensures.value c.forget.ensures.items c.loop-number.invariant
+
+pub returns : goal.returns
+returns c = rw (← c.self.view_is) c.loop-number.invariant

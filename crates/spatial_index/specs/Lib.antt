@@ -1,0 +1,4 @@
+pub mod Cells
+pub mod Contents
+pub mod Levels
+pub mod Moves
