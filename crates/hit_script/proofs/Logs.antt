@@ -33,27 +33,31 @@ grows_scripted {make} {old} {new} {text} scripted after told = ((scripted after 
 
 -- What entries make of lines, some lines after others.
 
-scripted_then : (line : List ℕ) (others ys : List (List ℕ)) (first : Option Scripted)
-    → ((log : List Entry) → scripted_lines (others ++ ys) log ≡ option_and_then (λ made. text_before made.text (scripted_lines ys made.rest)) (scripted_lines others log))
-    → option_and_then (λ made. text_before made.text (scripted_lines (others ++ ys) made.rest)) first ≡ option_and_then (λ made. text_before made.text (scripted_lines ys made.rest)) (option_and_then (λ made. text_before made.text (scripted_lines others made.rest)) first)
-scripted_then line others ys None split = refl
-scripted_then line others ys (Some first) split = rw (split first.rest) (by_middle (scripted_lines others first.rest))
-  where
-    by_rest : (text : List ℕ) (more : Option Scripted) → text_before first.text (text_before text more) ≡ text_before (first.text ++ text) more
-    by_rest text None = refl
-    by_rest text (Some more) = rw (append_assoc first.text text more.text) refl
+-- what the entries that are left make of more lines
+abbrev more_by : List (List ℕ) → Scripted → Option Scripted
+more_by ys made = text_before made.text (scripted_lines ys made.rest)
 
-    by_middle : (middle : Option Scripted) → text_before first.text (option_and_then (λ made. text_before made.text (scripted_lines ys made.rest)) middle) ≡ option_and_then (λ made. text_before made.text (scripted_lines ys made.rest)) (text_before first.text middle)
-    by_middle None = refl
-    by_middle (Some middle) = by_rest middle.text (scripted_lines ys middle.rest)
+more_before : (text : List ℕ) (ys : List (List ℕ)) (made : Option Scripted) → text_before text (option_and_then (more_by ys) made) ≡ option_and_then (more_by ys) (text_before text made)
+more_before text ys None = refl
+more_before text ys (Some made) = by_rest (scripted_lines ys made.rest)
+  where
+    by_rest : (more : Option Scripted) → text_before text (text_before made.text more) ≡ text_before (text ++ made.text) more
+    by_rest None = refl
+    by_rest (Some more) = rw (append_assoc text made.text more.text) refl
+
+more_behind : (others ys : List (List ℕ)) (first : Option Scripted)
+    → ((log : List Entry) → scripted_lines (others ++ ys) log ≡ option_and_then (more_by ys) (scripted_lines others log))
+    → option_and_then (more_by (others ++ ys)) first ≡ option_and_then (more_by ys) (option_and_then (more_by others) first)
+more_behind others ys None split = refl
+more_behind others ys (Some first) split = rw (split first.rest) (more_before first.text ys (scripted_lines others first.rest))
 
 nothing_before : (more : Option Scripted) → more ≡ text_before [] more
 nothing_before None = refl
 nothing_before (Some more) = refl
 
-pub scripted_lines-append : (xs ys : List (List ℕ)) (log : List Entry) → scripted_lines (xs ++ ys) log ≡ option_and_then (λ made. text_before made.text (scripted_lines ys made.rest)) (scripted_lines xs log)
+pub scripted_lines-append : (xs ys : List (List ℕ)) (log : List Entry) → scripted_lines (xs ++ ys) log ≡ option_and_then (more_by ys) (scripted_lines xs log)
 scripted_lines-append [] ys log = nothing_before (scripted_lines ys log)
-scripted_lines-append (line ∷ others) ys log = scripted_then line others ys (scripted_line line log) (scripted_lines-append others ys)
+scripted_lines-append (line ∷ others) ys log = more_behind others ys (scripted_line line log) (scripted_lines-append others ys)
 
 pub scripted_nothing : (old : Option (List Entry)) (after : List Entry) → old ≡ Some after → IsScripted (scripted_lines []) old after []
 scripted_nothing old after told = record { entries = []; follows = (after, told, sym (append-nil after)); makes = λ rest. refl }

@@ -1,9 +1,8 @@
 -- What a desk that was asked for some lines tells of the text that was written for them.
-use Rattle.std.specs.Prelude.{◌≡◌, ℕ, List, ◌++◌, Option, Some}
+use Rattle.std.specs.Prelude.{◌≡◌, ℕ, List, ◌++◌, Option, Some, Result}
 use Rattle.box_tree.specs.Contents.{Contents}
 use Rattle.script_lines.specs.declared.command.Command.{Command}
 use Rattle.script_lines.specs.declared.command.LineFault.{LineFault}
-use Rattle.std.specs.Prelude.{Result}
 use Rattle.hit_script.specs.Ends.{TakesAll}
 use Rattle.hit_script.specs.Log.{Entry, Scripted, IsFollowedBy, scripted_command, scripted_lines}
 use Rattle.hit_script.specs.Script.{answer_to_command, replies_from, page_behind}
