@@ -5,6 +5,7 @@ use Rattle.std.specs.Option.{option_or, option_map, option_map_or}
 use Rattle.std.specs.List.{insert}
 use Rattle.std.proofs.lemmas.Bool.{cases_lt, cases_eq}
 use Rattle.std.proofs.lemmas.Bool.Decides.{nat_tests}
+use Rattle.computed_style.specs.declared.style.Style.{Style}
 use Rattle.box_tree.specs.declared.kind.Kind.{Kind}
 use Rattle.box_tree.specs.declared.piece.Piece.{Piece}
 use Rattle.box_tree.specs.declared.node.Node.{Node}
@@ -42,9 +43,9 @@ pub record MayAdd (page : Contents) (parent at : ℕ) (boxes : List Piece) : Typ
   pub nodes : node_count page.tree < 65536
   pub next : page.next ≤ 1048576
 
-pub may_add : (page : Contents) (parent at : ℕ) (kind : Kind) (boxes : List Piece) → first_fault page (Add parent at kind boxes) ≡ None → MayAdd page parent at boxes
-may_add page parent at kind boxes none =
-    let tests = none_holds (faults_of page (Add parent at kind boxes)) none in
+pub may_add : (page : Contents) (parent at : ℕ) (kind : Kind) (style : Style) (boxes : List Piece) → first_fault page (Add parent at kind boxes style) ≡ None → MayAdd page parent at boxes
+may_add page parent at kind style boxes none =
+    let tests = none_holds (faults_of page (Add parent at kind boxes style)) none in
     record {
       present = elim (cases_eq parent 0) [
         | inl none_named ↦ inl none_named
@@ -77,9 +78,9 @@ once_there page id valid there = elim (cases_lt 0 (occurrences page.tree id)) [
 pub ancestors_below-none : (page : Contents) → IsValid page → ancestors_below page 0 ≡ []
 ancestors_below-none page valid = ap (λ p. option_map_or (λ q. q.label ∷ q.above) p []) (placed_in-absent page.tree [] 0 (given-absent page.tree [] page.next 0 valid.given (inl refl)))
 
-module _ (page : Contents) (valid : IsValid page) (parent at : ℕ) (kind : Kind) (boxes : List Piece) (in_range : All IsBoxInRange boxes) (may : MayAdd page parent at boxes) where
+module _ (page : Contents) (valid : IsValid page) (parent at : ℕ) (kind : Kind) (style : Style) (boxes : List Piece) (in_range : All IsBoxInRange boxes) (may : MayAdd page parent at boxes) where
   abbrev label : Label
-  label = new_label page.next kind boxes
+  label = new_label page.next kind style boxes
 
   -- the new id was not given yet
   new_absent : occurrences page.tree page.next ≡ 0

@@ -3,6 +3,7 @@ use Rattle.std.specs.Prelude.{ℕ, ◌+◌, ◌<◌, ◌≤◌, ◌^◌, List, [
 use Rattle.std.specs.List.{filter}
 use Rattle.std.specs.Option.{option_map, option_map_or}
 use Rattle.fractions.specs.declared.rect.Spot.{Spot}
+use Rattle.computed_style.specs.declared.style.Style.{Style}
 use Rattle.box_tree.specs.declared.kind.Kind.{Kind}
 use Rattle.box_tree.specs.declared.piece.Piece.{Piece}
 use Rattle.box_tree.specs.declared.node.Node.{Node}
@@ -32,6 +33,7 @@ node_at p = record {
   parent = parent_id p.above;
   children = roots_of p.below;
   depth = depth_below p.above;
+  style = p.label.style;
   anchor = p.label.anchor;
   boxes = p.label.boxes;
   scroll = p.label.scroll;
@@ -84,8 +86,8 @@ abbrev pub origin : Spot
 origin = record { x = pos 0; y = pos 0 }
 
 -- what a new node is: it has no anchor, and nothing to scroll
-abbrev pub new_label : ℕ → Kind → List Piece → Label
-new_label id kind boxes = record { id = id; kind = kind; anchor = origin; boxes = boxes; scroll = origin; max = origin }
+abbrev pub new_label : ℕ → Kind → Style → List Piece → Label
+new_label id kind style boxes = record { id = id; kind = kind; style = style; anchor = origin; boxes = boxes; scroll = origin; max = origin }
 
 -- a page with no node, seen through an unscrolled viewport of these sides
 abbrev pub empty_page : ℤ → ℤ → Contents

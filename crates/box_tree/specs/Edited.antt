@@ -29,7 +29,7 @@ pub record IsResizeInRange (w h : ℤ) (max : Spot) : Type 0 where
 
 -- the numbers of an edit are within their limits
 abbrev pub IsInRange : Edit → Type 0
-IsInRange (Add parent at kind boxes) = All IsBoxInRange boxes
+IsInRange (Add parent at kind boxes style) = All IsBoxInRange boxes
 IsInRange (Remove id) = Unit {0}
 IsInRange (Move id parent at) = Unit {0}
 IsInRange (Place id anchor boxes max) = IsPlaceInRange anchor boxes max
@@ -86,8 +86,8 @@ resized w h max v = record { w = w; h = h; scroll = clamped_to max v.scroll; max
 
 -- the page that an edit without a fault leaves
 abbrev pub edited : Contents → Edit → Contents
-edited page (Add parent at kind boxes) = record page {
-  tree = planted parent at (new_label page.next kind boxes) End page.tree;
+edited page (Add parent at kind boxes style) = record page {
+  tree = planted parent at (new_label page.next kind style boxes) End page.tree;
   next = page.next + 1;
 }
 edited page (Remove id) = record page { tree = taken_out id page.tree }
@@ -97,7 +97,7 @@ edited page (Resize w h max) = record page { viewport = resized w h max page.vie
 
 -- what it answers then
 abbrev pub answer_of : Contents → Edit → Done
-answer_of page (Add parent at kind boxes) = NodeAdded page.next
+answer_of page (Add parent at kind boxes style) = NodeAdded page.next
 answer_of page (Remove id) = EditDone
 answer_of page (Move id parent at) = EditDone
 answer_of page (Place id anchor boxes max) = EditDone
@@ -127,7 +127,7 @@ first_of ((holds, why) ∷ others) = if holds then Some why else first_of others
 -- the table of faults; a move can't offend the kinds, since every node is a block and a block may hold any block, and a
 -- place can't make the page too full, since no node has more than one box
 abbrev pub faults_of : Contents → Edit → List (Bool × EditFault)
-faults_of page (Add parent at kind boxes) =
+faults_of page (Add parent at kind boxes style) =
     (not (parent == 0 || has_id page parent), fault.Absent)
     ∷ (parent == 0 && nat_lt 0 (node_count page.tree), fault.Root)
     ∷ (not (boxes_suit (ancestors_below page parent) boxes), fault.Kind)

@@ -5,6 +5,7 @@ ghost use Rattle.box_tree.specs.Edited.{IsPlaceInRange, IsResizeInRange, IsInRan
 
 use crate::kind::Kind;
 use crate::piece::{MOST, PieceList, lies_between};
+use computed_style::Style;
 use fractions::Spot;
 use std::alloc::AllocError;
 use thiserror::Error;
@@ -21,6 +22,7 @@ pub enum Edit {
         at: u32,
         kind: Kind,
         boxes: PieceList,
+        style: Style,
     },
     /// The node goes out of the page with all below it; the root too may go.
     Remove {
@@ -171,6 +173,14 @@ impl From<AllocError> for EditFault {
     ghost from_gives = { λ _ fault. fault ≡ OutOfMemory };
 
     fn from(_error: AllocError) -> EditFault {
+        EditFault::OutOfMemory
+    }
+}
+
+impl From<computed_style::OutOfMemory> for EditFault {
+    ghost from_gives = { λ _ fault. fault ≡ OutOfMemory };
+
+    fn from(_error: computed_style::OutOfMemory) -> EditFault {
         EditFault::OutOfMemory
     }
 }

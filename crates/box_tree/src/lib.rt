@@ -6,6 +6,7 @@
 #![tactic(auto)]
 
 mod edit;
+mod item;
 mod kind;
 mod node;
 mod page;
@@ -15,6 +16,7 @@ mod scroll;
 mod viewport;
 
 pub use edit::{Done, Edit, EditFault};
+pub use item::{Item, Part};
 pub use kind::Kind;
 pub use node::{Boxes, IdList, Node};
 pub use page::Page;

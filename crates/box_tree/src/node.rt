@@ -5,6 +5,7 @@ ghost use Rattle.box_tree.specs.Planned.{ids_without, is_among};
 
 use crate::kind::Kind;
 use crate::piece::Piece;
+use computed_style::Style;
 use fractions::Spot;
 use smallvec::SmallVec;
 use std::alloc::{AllocError, Global};
@@ -107,6 +108,8 @@ pub struct Node {
     pub children: IdList,
     /// The number of nodes from the root to this one, 1 for the root and at most 256.
     pub depth: u32,
+    /// What is declared on it.
+    pub style: Style,
     /// Where the layout puts it, added to its space: within 2^26 units.
     pub anchor: Spot,
     pub boxes: Boxes,

@@ -132,7 +132,8 @@ impl Page {
                 at,
                 kind,
                 boxes,
-            } => self.plan_add(*parent, *at, *kind, boxes)?,
+                style,
+            } => self.plan_add(*parent, *at, *kind, boxes, style)?,
             Edit::Remove { id } => self.plan_remove(*id)?,
             Edit::Move { id, parent, at } => self.plan_move(*id, *parent, *at)?,
             Edit::Place {

@@ -8,6 +8,8 @@ use Rattle.serde_json.specs.Events.{items_len, members_len}
 use Rattle.serde_json.specs.Find.{get, at, as_number, as_i64, as_str, as_array, as_object}
 use Rattle.serde_json.specs.Read.{read}
 use Rattle.fractions.specs.declared.rect.Spot.{Spot}
+use Rattle.computed_style.specs.Defaults.{empty_style}
+use Rattle.computed_style.specs.declared.style.Style.{Style}
 use Rattle.box_tree.specs.declared.kind.Kind.{Kind}
 use Rattle.box_tree.specs.declared.kind.Kind.TheVariants.{Block}
 use Rattle.box_tree.specs.declared.piece.Piece.{Piece}
@@ -112,23 +114,23 @@ abbrev pub kind_named : List ℕ → Option Kind
 kind_named name = if bytes_eq name (codes "block") then Some Block else None
 
 -- the empty style, which is the only one
-abbrev pub style_of : Data → Option (Unit {0})
-style_of d = if is_object_of 0 d then Some tt else None
+abbrev pub style_of : Data → Option Style
+style_of d = if is_object_of 0 d then Some empty_style else None
 
--- the parent, the place and the kind of a new node, whose style is given too
-unfoldable pub new_node : Data → Option (ℕ × ℕ × Kind)
+-- the parent, the place, the kind and the style of a new node
+unfoldable pub new_node : Data → Option (ℕ × ℕ × Kind × Style)
 new_node d = do
   parent ← get (codes "parent") d >>= number_to 4294967295
   place ← get (codes "at") d >>= number_to 4294967295
   kind ← get (codes "kind") d >>= as_str >>= kind_named
   style ← get (codes "style") d >>= style_of
-  Some (parent, place, kind)
+  Some (parent, place, kind, style)
 
 abbrev pub add_fields : Data → Option Command
 add_fields d = do
   node ← new_node d
   boxes ← get (codes "boxes") d >>= boxes_of
-  Some (Edit (Add node.0 node.1 node.2 boxes))
+  Some (Edit (Add node.0 node.1 node.2 boxes node.3))
 
 -- the row of `add`, its keys in any order and no other key
 unfoldable pub add_of : Data → Option Command

@@ -10,20 +10,21 @@ use crate::values::{
     style_from, viewport_side,
 };
 use box_tree::{Edit, Kind};
+use computed_style::Style;
 use fractions::Spot;
 use serde_json::Value;
 use std::alloc::{AllocError, Global};
 
-// The parent, the place and the kind of a new node.
+// The parent, the place, the kind and the style of a new node.
 #[tactic(auto, unfolding(crate::specs::Command::new_node))]
-fn node_from(value: &Value) -> Option<(u32, u32, Kind)>
+fn node_from(alloc: Global, value: &Value) -> Option<(u32, u32, Kind, Style)>
     ensures { result ≡ new_node (view value.now) }
 {
     let parent = number_to(value.get("parent"), u32::MAX)?;
     let at = number_to(value.get("at"), u32::MAX)?;
     let kind = kind_from(value.get("kind"))?;
-    style_from(value.get("style"))?;
-    Some((parent, at, kind))
+    let style = style_from(alloc, value.get("style"))?;
+    Some((parent, at, kind, style))
 }
 
 #[tactic(auto, unfolding(crate::specs::Command::add_of))]
@@ -34,7 +35,7 @@ fn add_from(alloc: Global, value: &Value) -> Result<Option<Command>, AllocError>
     if !is_object_of(value, 6) {
         return Ok(None);
     }
-    let Some((parent, at, kind)) = node_from(value) else {
+    let Some((parent, at, kind, style)) = node_from(alloc, value) else {
         return Ok(None);
     };
     let Some(boxes) = boxes_from(alloc, value.get("boxes"))? else {
@@ -45,6 +46,7 @@ fn add_from(alloc: Global, value: &Value) -> Result<Option<Command>, AllocError>
         at,
         kind,
         boxes,
+        style,
     })))
 }
 

@@ -6,6 +6,7 @@ ghost use Rattle.box_tree.specs.Contents.{IsBoxInRange, IsSpotInRange, IsMaxInRa
 ghost use Rattle.script_lines.specs.Command.{number_within as within, coordinate as coordinate_in, side as side_in, number_to as number_up_to, is_array_of as has_items, is_object_of as has_keys, spot_within as spot_in, anchor_of, max_of, viewport_side as viewport_side_in, box_at, box_of, each_box, boxes_of, id_of, kind_named, style_of};
 
 use box_tree::{Kind, Piece, PieceList};
+use computed_style::Style;
 use fractions::Spot;
 use serde_json::Value;
 use std::alloc::{AllocError, Global};
@@ -196,11 +197,11 @@ pub(crate) fn kind_from(found: Option<&Value>) -> Option<Kind>
 }
 
 // The empty style, which is the only one.
-pub(crate) fn style_from(found: Option<&Value>) -> Option<()>
+pub(crate) fn style_from(alloc: Global, found: Option<&Value>) -> Option<Style>
     ensures { result ≡ option_and_then style_of (option_map (λ v. view v.now) found.entry) }
 {
     if is_object_of(found?, 0) {
-        Some(())
+        Some(Style::new(alloc))
     } else {
         None
     }

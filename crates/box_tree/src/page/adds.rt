@@ -16,6 +16,7 @@ use crate::kind::Kind;
 use crate::node::{Boxes, IdList, Node, ORIGIN};
 use crate::piece::PieceList;
 use crate::plan::Plan;
+use computed_style::Style;
 use smallvec::SmallVec;
 use std::alloc::{AllocError, Global};
 use std::snapshot::Snapshot;
@@ -40,8 +41,15 @@ pub(super) struct Seat {
 
 impl Page {
     // The first fault of an add.
-    fn fault_of_add(&self, parent: u32, at: u32, kind: Kind, boxes: &PieceList) -> Option<EditFault>
-        ensures { result ≡ first_fault self.now.contents (Add parent at kind boxes.now) }
+    fn fault_of_add(
+        &self,
+        parent: u32,
+        at: u32,
+        kind: Kind,
+        boxes: &PieceList,
+        style: &Style,
+    ) -> Option<EditFault>
+        ensures { result ≡ first_fault self.now.contents (Add parent at kind boxes.now style.now) }
     {
         let above = self.find(parent);
         if parent != 0 && above.is_none() {
@@ -73,18 +81,19 @@ impl Page {
         at: u32,
         kind: Kind,
         boxes: &PieceList,
+        style: &Style,
     ) -> Result<Plan, EditFault>
         requires { All IsBoxInRange boxes.now }
         ensures contents { self.new.contents ≡ self.old.contents }
         ensures room { self.old.room ≤ self.new.room }
-        ensures planned { IfOk result (λ plan. IsPlanned plan (Add parent at kind boxes.now) self.new) }
-        ensures first_fault { IfErr result (λ why. why ≢ EditFault.OutOfMemory → first_fault self.old.contents (Add parent at kind boxes.now) ≡ Some why) }
+        ensures planned { IfOk result (λ plan. IsPlanned plan (Add parent at kind boxes.now style.now) self.new) }
+        ensures first_fault { IfErr result (λ why. why ≢ EditFault.OutOfMemory → first_fault self.old.contents (Add parent at kind boxes.now style.now) ≡ Some why) }
     {
-        if let Some(fault) = self.fault_of_add(parent, at, kind, boxes) {
+        if let Some(fault) = self.fault_of_add(parent, at, kind, boxes, style) {
             return Err(fault);
         }
         self.nodes.reserve(1)?;
-        self.plan_of_add(parent, at, kind, boxes)
+        self.plan_of_add(parent, at, kind, boxes, style)
     }
 
     // The same where there is no fault, and room in the list of nodes.
@@ -94,11 +103,12 @@ impl Page {
         at: u32,
         kind: Kind,
         boxes: &PieceList,
+        style: &Style,
     ) -> Result<Plan, EditFault>
         requires range { All IsBoxInRange boxes.now }
-        requires faultless { first_fault self.now.contents (Add parent at kind boxes.now) ≡ None }
+        requires faultless { first_fault self.now.contents (Add parent at kind boxes.now style.now) ≡ None }
         requires room { node_count self.now.contents.tree < self.now.room }
-        ensures planned { IfOk result (λ plan. IsPlanned plan (Add parent at kind boxes.now) self.now) }
+        ensures planned { IfOk result (λ plan. IsPlanned plan (Add parent at kind boxes.now style.now) self.now) }
         ensures memory { IfErr result (λ why. why ≡ EditFault.OutOfMemory) }
     {
         let alloc = *self.nodes.allocator();
@@ -111,6 +121,7 @@ impl Page {
             parent,
             children: IdList(Vec::new(alloc)),
             depth,
+            style: style.copy()?,
             anchor: ORIGIN,
             boxes: Boxes::from_pieces(alloc, &boxes.0)?,
             scroll: ORIGIN,

@@ -5,6 +5,7 @@ use super::*;
 use crate::edit::Edit;
 use crate::kind::Kind;
 use crate::piece::{Piece, PieceList};
+use computed_style::Style;
 use fractions::{Blank, Brand};
 use std::process::Abort;
 use std::test::Fail;
@@ -34,6 +35,7 @@ fn block(alloc: Global, parent: u32, at: u32, corners: &[(i64, i64)]) -> Result<
         at,
         kind: Kind::Block,
         boxes: boxes_at(alloc, corners)?,
+        style: Style::new(alloc),
     })
 }
 

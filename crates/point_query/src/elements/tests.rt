@@ -3,6 +3,7 @@ ghost use Rattle.box_tree.specs.Contents.{IsWithin};
 
 use super::*;
 use box_tree::{Edit, Kind, PieceList};
+use computed_style::Style;
 use fractions::{Blank, Brand};
 use std::process::Abort;
 use std::test::Fail;
@@ -34,6 +35,7 @@ fn block(
         at,
         kind: Kind::Block,
         boxes: boxes_of(alloc, sides)?,
+        style: Style::new(alloc),
     })
 }
 
