@@ -5,11 +5,13 @@
 // UI Events, in their order, and keeps the new chain; it takes no memory. The crate stands on std alone.
 #![tactic(auto)]
 
+mod chain;
 mod changes;
 mod event;
 pub mod laws;
 mod pointer;
 
+pub use chain::keep_chain;
 pub use event::{Event, EventKind};
 pub use pointer::{OutOfMemory, Pointer};
 
