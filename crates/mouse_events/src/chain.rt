@@ -1,5 +1,8 @@
 ghost use Rattle.std.specs.Prelude.{◌≡◌, ◌≤◌, length, vec_capacity};
 
+/// How many members a chain has at most.
+pub const LONGEST_CHAIN: usize = 256;
+
 /// Puts a chain in place of the kept one, for which there is room. It takes no memory.
 pub fn keep_chain(kept: &mut Vec<u32>, chain: &[u32])
     requires { length chain.now ≤ vec_capacity kept.old }

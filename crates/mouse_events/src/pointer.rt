@@ -3,19 +3,13 @@ ghost use Rattle.std.specs.Borrow.{sem};
 ghost use Rattle.mouse_events.specs.Events.{events_between};
 ghost use Rattle.mouse_events.specs.Lending.{RestsOn};
 
-use crate::chain::keep_chain;
-use crate::changes::write_events;
+use crate::chain::{LONGEST_CHAIN, keep_chain};
+use crate::changes::{MOST_EVENTS, write_events};
 use crate::event::Event;
 use std::alloc::{AllocError, Global};
 use std::error::Error;
 use std::fmt;
 use std::marker::Model;
-
-/// How many members a chain has at most.
-const LONGEST_CHAIN: usize = 256;
-
-/// How many events a turn makes at most: a leave and an enter for each member, out, over and move.
-const MOST_EVENTS: usize = 515;
 
 /// Memory for a new pointer was refused.
 #[derive(Clone, Copy, Debug, PartialEq, Eq)]
