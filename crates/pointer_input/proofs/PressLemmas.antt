@@ -1,15 +1,8 @@
--- Press chains: what is gone goes from each of them.
+-- Lists whose first elements are changed, and the others not yet, as press chains while what is gone goes
+-- from them.
 use Rattle.std.proofs.Common.{◌≡◌, ℕ, suc, zero, ◌<◌, ◌+◌, Bool, true, false, cond, Option, Some, None, List, [], ◌∷◌, ◌++◌, map, take, drop, length, get_or, set, refl, sym, ap, ◌∙◌, arith}
 use Rattle.mouse_events.specs.Chain.{without}
 use Rattle.pointer_input.specs.Presses.{without_gone}
-
--- a button that is down and one that is up
-pub forgotten : (is_down : Bool) (members kept gone : List ℕ) → kept ≡ without gone members
-    → cond is_down (Some kept) None ≡ without_gone gone (cond is_down (Some members) None)
-forgotten true members kept gone e = ap Some e
-forgotten false members kept gone e = refl
-
--- ---- a list whose first elements are changed, and the others not yet
 
 abbrev pub changed_below : {A : Type 0} → (A → A) → ℕ → List A → List A
 changed_below f i xs = map f (take i xs) ++ drop i xs

@@ -4,3 +4,5 @@ pub mod Presses
 pub mod Buttons
 pub mod Inputs
 pub mod Lending
+pub mod Clicks
+pub mod Runs

@@ -1,7 +1,9 @@
-ghost use Rattle.std.specs.Prelude.{◌≡◌};
+ghost use Rattle.std.specs.Prelude.{◌≡◌, ◌↔◌, IsTrue};
+ghost use Rattle.pointer_input.specs.Inputs.{IsAllowed};
 
 use crate::press::Press;
-use mouse_events::Event;
+use crate::presses::BUTTONS;
+use mouse_events::{Event, LONGEST_CHAIN};
 use std::marker::Model;
 
 /// The ids of a chain, root first, or of any elements; clauses see them as a list.
@@ -43,6 +45,21 @@ pub enum Input {
     Capture {
         id: u32,
     },
+}
+
+impl Input {
+    /// Whether its chains have at most 256 members, or its button is from 0 to 4: then it may be asked.
+    pub fn is_allowed(&self) -> bool
+        ensures { IsTrue result ↔ IsAllowed self.now }
+    {
+        match self {
+            Input::Turn { under, holding, .. } => {
+                under.as_slice().len() <= LONGEST_CHAIN && holding.as_slice().len() <= LONGEST_CHAIN
+            }
+            Input::Down { button } | Input::Up { button } => usize::from(*button) < BUTTONS,
+            Input::Capture { .. } => true,
+        }
+    }
 }
 
 /// What an input is answered with, piece by piece.

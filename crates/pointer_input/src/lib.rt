@@ -10,6 +10,7 @@
 mod buttons;
 mod capture;
 mod input;
+pub mod laws;
 mod playing;
 mod press;
 mod press_chain;
@@ -18,7 +19,7 @@ mod presses;
 pub use buttons::Buttons;
 pub use input::{Ids, Input, Output};
 pub use mouse_events::OutOfMemory;
-pub use playing::play;
+pub use playing::{are_allowed, play};
 pub use press::{Press, PressKind};
 
 #[cfg(test)]

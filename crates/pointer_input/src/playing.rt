@@ -1,4 +1,4 @@
-ghost use Rattle.std.specs.Prelude.{◌≡◌, ◌∷◌, [], ◌++◌, All, IfOk, OnOk};
+ghost use Rattle.std.specs.Prelude.{◌≡◌, ◌↔◌, ◌∷◌, [], ◌++◌, All, IsTrue, IfOk, OnOk};
 ghost use Rattle.std.specs.Option.{option_to_list};
 ghost use Rattle.pointer_input.specs.State.{start};
 ghost use Rattle.pointer_input.specs.Inputs.{IsAllowed, as_events, as_presses, answer_to, step, played};
@@ -8,6 +8,13 @@ use crate::input::{Input, Output};
 use crate::press::Press;
 use mouse_events::{Event, OutOfMemory};
 use std::alloc::{AllocError, Global};
+
+/// Whether each input may be asked: what `play` requires.
+pub fn are_allowed(inputs: &[Input]) -> bool
+    ensures { IsTrue result ↔ All IsAllowed inputs.now }
+{
+    inputs.iter().all(|input| input.is_allowed())
+}
 
 /// Puts a list of inputs in order to a new pointer with buttons, and answers all that they are answered
 /// with. In each input the chains have at most 256 members, and the button is from 0 to 4.

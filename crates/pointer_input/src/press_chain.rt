@@ -1,4 +1,5 @@
-ghost use Rattle.std.specs.Prelude.{◌≡◌, ◌≤◌, Some, None, length, is_some, IfOk, IfSome};
+ghost use Rattle.std.specs.Prelude.{◌≡◌, ◌≤◌, Some, None, length, is_some, IfOk, IfSome, vec_capacity};
+ghost use Rattle.mouse_events.specs.Chain.{without};
 ghost use Rattle.pointer_input.specs.Presses.{without_gone};
 
 use mouse_events::{LONGEST_CHAIN, OutOfMemory, keep_chain};
@@ -67,6 +68,14 @@ impl PressChain {
     pub fn forget(&mut self, gone: &[u32])
         ensures { self.new ≡ without_gone gone.now self.old }
     {
-        self.members.retain(|member| !gone.contains(member));
+        remove_gone(&mut self.members, gone);
     }
+}
+
+/// Takes the elements that are gone from the page out of a list.
+fn remove_gone(members: &mut Vec<u32>, gone: &[u32])
+    ensures items { members.new.items ≡ without gone.now members.old.items }
+    ensures capacity { vec_capacity members.new ≡ vec_capacity members.old }
+{
+    members.retain(|member| !gone.contains(member));
 }

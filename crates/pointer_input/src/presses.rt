@@ -9,7 +9,7 @@ use mouse_events::OutOfMemory;
 use std::alloc::Global;
 
 /// How many buttons a pointer has.
-const BUTTONS: usize = 5;
+pub const BUTTONS: usize = 5;
 
 /// The button that clicks.
 const PRIMARY: u8 = 0;

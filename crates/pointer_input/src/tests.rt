@@ -1,5 +1,5 @@
 use crate::PressKind::{Click, Down, Up};
-use crate::{Buttons, Ids, Input, Output, Press, PressKind, play};
+use crate::{Buttons, Ids, Input, Output, Press, PressKind, are_allowed, play};
 use mouse_events::EventKind::{Enter, Leave, Move, Out, Over};
 use mouse_events::{Event, EventKind};
 use std::alloc::{AllocError, Global};
@@ -311,6 +311,7 @@ fn plays_a_list_of_inputs(rt: HostRuntime) -> Result<(), Fail> {
             press: press(Click, 2, 0),
         },
     ];
+    assert!(rt; are_allowed(&inputs));
     assert_eq!(rt; play(alloc, &inputs)?.as_slice(), outputs.as_slice());
     Ok(())
 }
