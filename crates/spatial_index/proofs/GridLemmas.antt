@@ -10,7 +10,7 @@ use Rattle.std.proofs.lemmas.List.{get_or_read, get_or_past, get_or-replicate, l
 use Rattle.std.proofs.lemmas.Nat.{div_below, div-add-mod', mod_below, mul-add-lt}
 use Rattle.fractions.specs.declared.rect.Rect.{Rect}
 use Rattle.spatial_index.specs.declared.change.Change.{Change}
-use Rattle.spatial_index.specs.Cells.{Region, IsCell, line_of, line_count, cell_number, level_of, is_met}
+use Rattle.spatial_index.specs.Cells.{Region, IsCell, line_of, line_count, cell_number, is_met}
 use Rattle.spatial_index.specs.Contents.{CellState, GridState, empty_cell, cell_at, times, once_if, StandsBy, StandsNowhere}
 use Rattle.spatial_index.specs.Levels.{nth_cell, AreIn, HaveRoom, Stand, HasSameItems, HasForgotten, HasPromised, HasPut, HasTaken}
 use Rattle.spatial_index.specs.Moves.{IsGrid, IsPlan, PutsIn, TakesOut, KeepsItems, HasNoRoomFor, HasMoreRoom, HasRoomFor, Moves}
