@@ -1,5 +1,6 @@
 pub mod Forest
 pub mod Contents
+pub mod Used
 pub mod Edited
 pub mod Kept
 pub mod PageState

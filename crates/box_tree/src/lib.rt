@@ -13,6 +13,7 @@ mod page;
 mod piece;
 mod plan;
 mod scroll;
+mod used;
 mod viewport;
 
 pub use edit::{Done, Edit, EditFault};
@@ -22,4 +23,8 @@ pub use node::{Boxes, IdList, Node};
 pub use page::Page;
 pub use piece::{Piece, PieceList};
 pub use plan::{Prepared, Undo};
+pub use used::{
+    is_atomic, is_block_container, is_block_level, is_floating, is_in_flow, is_positioned,
+    is_real_context, is_taken_out, is_transformed, stack_level, used_position,
+};
 pub use viewport::Viewport;
