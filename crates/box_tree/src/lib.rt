@@ -2,7 +2,7 @@
 //!
 //! It promises that an edit is tested by the table of faults before anything is changed, that a tested edit is
 //! carried out without taking memory, and that the page is then the edited one of `specs/Edited.antt`.
-//! It stands on `fractions` for its points and its counter of steps.
+//! It stands on `fractions` for its points and its counter of steps, and on `computed_style` for declared styles.
 #![tactic(auto)]
 
 mod edit;
@@ -13,6 +13,7 @@ mod page;
 mod piece;
 mod plan;
 mod scroll;
+mod suits;
 mod viewport;
 
 pub use edit::{Done, Edit, EditFault};
