@@ -7,11 +7,11 @@ ghost use Rattle.box_tree.specs.Edited.{IsId};
 ghost use Rattle.script_lines.specs.Command.{new_node, add_of, remove_of, move_of, layout, place_of, resize_of, point_of, hit_of, top_of, command_reading, IsAskable};
 
 use crate::command::Command;
+use crate::style::style_from;
 use crate::values::{
     anchor_from, boxes_from, coordinate, id_from, is_object_of, kind_from, max_from, number_to,
     viewport_side,
 };
-use crate::style::style_from;
 use box_tree::{Edit, Kind};
 use computed_style::Style;
 use fractions::Spot;

@@ -105,7 +105,9 @@ fn line_faults_have_numbers_and_names(rt: HostRuntime) -> Result<(), Fail> {
 
 // The kind and the style of an add with these values of its keys, and none where that is no command.
 fn added(alloc: Global, kind: &str, style: &str) -> Result<Option<(Kind, Style)>, Fail> {
-    let line = format!(in alloc; "{{\"op\":\"add\",\"parent\":1,\"at\":0,\"kind\":{kind},\"boxes\":[],\"style\":{style}}}")?;
+    let line = format!(in alloc;
+        "{{\"op\":\"add\",\"parent\":1,\"at\":0,\"kind\":{kind},\"boxes\":[],\"style\":{style}}}"
+    )?;
     match command_of(alloc, line.as_bytes()) {
         Ok(Command::Edit(Edit::Add { kind, style, .. })) => Ok(Some((kind, style))),
         _ => Ok(None),
@@ -139,35 +141,90 @@ type Set = (Position, bool, Option<i32>, u16, [i64; 4], bool);
 fn each_key_of_a_style_has_its_least_and_its_greatest_value(rt: HostRuntime) -> Result<(), Fail> {
     let alloc = rt.alloc();
     for (text, expected) in [
-        (r#"{}"#, Some((Position::Static, false, None, 1000, [0; 4], false))),
-        (r#"{"position":"static"}"#, Some((Position::Static, false, None, 1000, [0; 4], false))),
-        (r#"{"position":"relative"}"#, Some((Position::Relative, false, None, 1000, [0; 4], false))),
-        (r#"{"position":"absolute"}"#, Some((Position::Absolute, false, None, 1000, [0; 4], false))),
-        (r#"{"position":"fixed"}"#, Some((Position::Fixed, false, None, 1000, [0; 4], false))),
+        (
+            r#"{}"#,
+            Some((Position::Static, false, None, 1000, [0; 4], false)),
+        ),
+        (
+            r#"{"position":"static"}"#,
+            Some((Position::Static, false, None, 1000, [0; 4], false)),
+        ),
+        (
+            r#"{"position":"relative"}"#,
+            Some((Position::Relative, false, None, 1000, [0; 4], false)),
+        ),
+        (
+            r#"{"position":"absolute"}"#,
+            Some((Position::Absolute, false, None, 1000, [0; 4], false)),
+        ),
+        (
+            r#"{"position":"fixed"}"#,
+            Some((Position::Fixed, false, None, 1000, [0; 4], false)),
+        ),
         (r#"{"position":"sticky"}"#, None),
-        (r#"{"float":"none"}"#, Some((Position::Static, false, None, 1000, [0; 4], false))),
-        (r#"{"float":"left"}"#, Some((Position::Static, true, None, 1000, [0; 4], false))),
-        (r#"{"float":"right"}"#, Some((Position::Static, true, None, 1000, [0; 4], false))),
+        (
+            r#"{"float":"none"}"#,
+            Some((Position::Static, false, None, 1000, [0; 4], false)),
+        ),
+        (
+            r#"{"float":"left"}"#,
+            Some((Position::Static, true, None, 1000, [0; 4], false)),
+        ),
+        (
+            r#"{"float":"right"}"#,
+            Some((Position::Static, true, None, 1000, [0; 4], false)),
+        ),
         (r#"{"float":true}"#, None),
-        (r#"{"z":-2147483648}"#, Some((Position::Static, false, Some(i32::MIN), 1000, [0; 4], false))),
-        (r#"{"z":2147483647}"#, Some((Position::Static, false, Some(i32::MAX), 1000, [0; 4], false))),
+        (
+            r#"{"z":-2147483648}"#,
+            Some((Position::Static, false, Some(i32::MIN), 1000, [0; 4], false)),
+        ),
+        (
+            r#"{"z":2147483647}"#,
+            Some((Position::Static, false, Some(i32::MAX), 1000, [0; 4], false)),
+        ),
         (r#"{"z":-2147483649}"#, None),
         (r#"{"z":2147483648}"#, None),
         (r#"{"z":"auto"}"#, None),
         (r#"{"z":1.5}"#, None),
-        (r#"{"opacity":0}"#, Some((Position::Static, false, None, 0, [0; 4], false))),
-        (r#"{"opacity":1000}"#, Some((Position::Static, false, None, 1000, [0; 4], false))),
+        (
+            r#"{"opacity":0}"#,
+            Some((Position::Static, false, None, 0, [0; 4], false)),
+        ),
+        (
+            r#"{"opacity":1000}"#,
+            Some((Position::Static, false, None, 1000, [0; 4], false)),
+        ),
         (r#"{"opacity":1001}"#, None),
         (r#"{"opacity":-1}"#, None),
-        (r#"{"border":[0,1048576,2,3]}"#, Some((Position::Static, false, None, 1000, [0, 1_048_576, 2, 3], false))),
+        (
+            r#"{"border":[0,1048576,2,3]}"#,
+            Some((
+                Position::Static,
+                false,
+                None,
+                1000,
+                [0, 1_048_576, 2, 3],
+                false,
+            )),
+        ),
         (r#"{"border":[0,0,0,1048577]}"#, None),
         (r#"{"border":[-1,0,0,0]}"#, None),
         (r#"{"border":[0,0,0]}"#, None),
         (r#"{"border":[0,0,0,0,0]}"#, None),
-        (r#"{"display":"inline"}"#, Some((Position::Static, false, None, 1000, [0; 4], false))),
-        (r#"{"display":"block"}"#, Some((Position::Static, false, None, 1000, [0; 4], true))),
+        (
+            r#"{"display":"inline"}"#,
+            Some((Position::Static, false, None, 1000, [0; 4], false)),
+        ),
+        (
+            r#"{"display":"block"}"#,
+            Some((Position::Static, false, None, 1000, [0; 4], true)),
+        ),
         (r#"{"display":"none"}"#, None),
-        (r#"{"z":0,"position":"fixed","opacity":5,"display":"block"}"#, Some((Position::Fixed, false, Some(0), 5, [0; 4], true))),
+        (
+            r#"{"z":0,"position":"fixed","opacity":5,"display":"block"}"#,
+            Some((Position::Fixed, false, Some(0), 5, [0; 4], true)),
+        ),
         (r#"{"transform":[]}"#, None),
         (r#"{"radii":[0,0,0,0,0,0,0,0]}"#, None),
         (r#"{"visibility":"visible"}"#, None),
