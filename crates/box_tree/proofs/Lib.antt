@@ -15,3 +15,4 @@ pub mod RemoveLemmas
 pub mod MoveLemmas
 pub mod PlaceLemmas
 pub mod BoxLemmas
+pub mod ContainingLemmas
