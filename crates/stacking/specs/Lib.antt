@@ -1,0 +1,4 @@
+pub mod Sorting
+pub mod Painting
+pub mod Counting
+pub mod OnPage
