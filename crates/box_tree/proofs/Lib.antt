@@ -12,3 +12,4 @@ pub mod CountLemmas
 pub mod RemoveLemmas
 pub mod MoveLemmas
 pub mod PlaceLemmas
+pub mod ContainingLemmas

@@ -2,9 +2,11 @@
 //!
 //! It promises that an edit is tested by the table of faults before anything is changed, that a tested edit is
 //! carried out without taking memory, and that the page is then the edited one of `specs/Edited.antt`.
-//! It stands on `fractions` for its points and its counter of steps.
+//! It tells what holds a node and what its used values are, by `specs/Containing.antt` and `specs/Used.antt`.
+//! It stands on `fractions` for its points and its counter of steps, and on `computed_style` for styles.
 #![tactic(auto)]
 
+mod containing;
 mod edit;
 mod item;
 mod kind;
@@ -16,6 +18,7 @@ mod scroll;
 mod used;
 mod viewport;
 
+pub use containing::Holder;
 pub use edit::{Done, Edit, EditFault};
 pub use item::{Item, Part};
 pub use kind::Kind;

@@ -108,7 +108,7 @@ impl Page {
     }
 
     // The node of an id, where it is in the page.
-    fn find(&self, id: u32) -> Option<&Node>
+    pub(crate) fn find(&self, id: u32) -> Option<&Node>
         ensures { option_copied result ≡ node_of self.now.contents id }
     {
         let place = place_of(&self.nodes, id)?;
