@@ -36,7 +36,7 @@ pub box_items-more : (id : ℕ) (boxes : List Piece) (k : ℕ) (xs xs' all : Lis
     xs ++ box_items id k (drop k boxes) ≡ all → xs' ++ box_items id (k + 1) (drop (k + 1) boxes) ≡ all
 box_items-more id boxes k xs xs' all item within is more known =
     let left : box_items id k (drop k boxes) ≡ record { node = id; part = Box k } ∷ box_items id (k + 1) (drop (k + 1) boxes) =
-        at_drop (λ place (box : Piece). record { node = id; part = Box place }) (box_items id) (λ place. refl) (λ place box rest. refl) boxes k k no_box within in
+    at_drop (λ place (box : Piece). record { node = id; part = Box place }) (box_items id) (λ place. refl) (λ place box rest. refl) boxes k k no_box within in
     pushed xs xs' (box_items id (k + 1) (drop (k + 1) boxes)) all item more
     (ap (λ (i : Item). xs ++ (i ∷ box_items id (k + 1) (drop (k + 1) boxes))) is ∙ ap (λ ys. xs ++ ys) (sym left) ∙ known)
 
@@ -51,7 +51,7 @@ pub parts_from-more : (id : ℕ) (boxes : List Piece) (k : ℕ) (xs xs' all : Li
     xs ++ parts_from id k (drop k boxes) ≡ all → xs' ++ parts_from id (k + 1) (drop (k + 1) boxes) ≡ all
 parts_from-more id boxes k xs xs' all item d within is more known =
     let left : parts_from id k (drop k boxes) ≡ record { line = (get_or boxes k d).line; what = painted.OneBox (record { node = id; part = Box k }) } ∷ parts_from id (k + 1) (drop (k + 1) boxes) =
-        at_drop (λ place (box : Piece). record { line = box.line; what = painted.OneBox (record { node = id; part = Box place }) }) (parts_from id) (λ place. refl) (λ place box rest. refl) boxes k k d within in
+    at_drop (λ place (box : Piece). record { line = box.line; what = painted.OneBox (record { node = id; part = Box place }) }) (parts_from id) (λ place. refl) (λ place box rest. refl) boxes k k d within in
     pushed xs xs' (parts_from id (k + 1) (drop (k + 1) boxes)) all (record { line = (get_or boxes k d).line; what = painted.OneBox item }) more
     (ap (λ (i : Item). xs ++ (record { line = (get_or boxes k d).line; what = painted.OneBox i } ∷ parts_from id (k + 1) (drop (k + 1) boxes))) is ∙ ap (λ ys. xs ++ ys) (sym left) ∙ known)
 

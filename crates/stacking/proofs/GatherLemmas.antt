@@ -147,11 +147,11 @@ module _ (page : Contents) (valid : IsValid page) (id : ℕ) (node : Node) (seen
           xs ++ of_node (gathered_from (met_ids test) k) page id ≡ all → xs'' ++ of_node (gathered_from (met_ids test) (k + 1)) page id ≡ all
       met-more test b e b_is e_is xs xs' xs'' all first second known =
           let share_is : shared (met_ids test) place ≡ (if b then get_or items k 0 ∷ [] else []) ++ (if e then gathered (met_ids test) page (get_or items k 0) else []) =
-              shared-met test place
-              ∙ ap (λ c. (if c then place.label.id ∷ [] else []) ++ (if at is_entered place then gathered_in (met_ids test) place else [])) (sym (b_is ∙ word test))
-              ∙ ap (λ (i : ℕ). (if b then i ∷ [] else []) ++ (if at is_entered place then gathered_in (met_ids test) place else [])) (id-child page valid id node seen k (get_or items k 0) 0 in_list child_is)
-              ∙ ap (λ c. (if b then get_or items k 0 ∷ [] else []) ++ (if c then gathered_in (met_ids test) place else [])) (sym (e_is ∙ word is_entered))
-              ∙ ap (λ ys. (if b then get_or items k 0 ∷ [] else []) ++ (if e then ys else [])) (sym (below (met_ids test))) in
+          shared-met test place
+          ∙ ap (λ c. (if c then place.label.id ∷ [] else []) ++ (if at is_entered place then gathered_in (met_ids test) place else [])) (sym (b_is ∙ word test))
+          ∙ ap (λ (i : ℕ). (if b then i ∷ [] else []) ++ (if at is_entered place then gathered_in (met_ids test) place else [])) (id-child page valid id node seen k (get_or items k 0) 0 in_list child_is)
+          ∙ ap (λ c. (if b then get_or items k 0 ∷ [] else []) ++ (if c then gathered_in (met_ids test) place else [])) (sym (e_is ∙ word is_entered))
+          ∙ ap (λ ys. (if b then get_or items k 0 ∷ [] else []) ++ (if e then ys else [])) (sym (below (met_ids test))) in
           appended_twice xs (if b then get_or items k 0 ∷ [] else []) (if e then gathered (met_ids test) page (get_or items k 0) else []) (of_node (gathered_from (met_ids test) (k + 1)) page id) all xs' xs'' first second
           (ap (λ ys. xs ++ (ys ++ of_node (gathered_from (met_ids test) (k + 1)) page id)) (sym share_is) ∙ ap (λ ys. xs ++ ys) (sym (step (met_ids test))) ∙ known)
 
@@ -161,10 +161,10 @@ module _ (page : Contents) (valid : IsValid page) (id : ℕ) (node : Node) (seen
           xs ++ of_node (gathered_from line_parts k) page id ≡ all → xs' ++ of_node (gathered_from line_parts (k + 1)) page id ≡ all
       parts-more r r_is xs xs' all more known =
           let share_is : shared line_parts place ≡ parts_by r (label_of inner) (gathered line_parts page (get_or items k 0)) =
-              shared-parts place
-              ∙ ap (λ q. parts_by q place.label (gathered_in line_parts place)) (sym (r_is ∙ word role_of))
-              ∙ ap (λ (n : Label). parts_by r n (gathered_in line_parts place)) (sym (child_label-seen page valid id node seen k (get_or items k 0) 0 in_list child_is inner seen'))
-              ∙ ap (parts_by r (label_of inner)) (sym (below line_parts)) in
+          shared-parts place
+          ∙ ap (λ q. parts_by q place.label (gathered_in line_parts place)) (sym (r_is ∙ word role_of))
+          ∙ ap (λ (n : Label). parts_by r n (gathered_in line_parts place)) (sym (child_label-seen page valid id node seen k (get_or items k 0) 0 in_list child_is inner seen'))
+          ∙ ap (parts_by r (label_of inner)) (sym (below line_parts)) in
           ap (λ ys. ys ++ of_node (gathered_from line_parts (k + 1)) page id) more
           ∙ append_assoc xs (parts_by r (label_of inner) (gathered line_parts page (get_or items k 0))) (of_node (gathered_from line_parts (k + 1)) page id)
           ∙ ap (λ ys. xs ++ (ys ++ of_node (gathered_from line_parts (k + 1)) page id)) (sym share_is) ∙ ap (λ ys. xs ++ ys) (sym (step line_parts)) ∙ known
@@ -175,9 +175,9 @@ module _ (page : Contents) (valid : IsValid page) (id : ℕ) (node : Node) (seen
           xs ++ of_node (gathered_from members_of k) page id ≡ all → xs'' ++ of_node (gathered_from members_of (k + 1)) page id ≡ all
       members-more r r_is xs xs' xs'' all first second known =
           let share_is : shared members_of place ≡ member_by (Some (label_of node)) (label_of inner) ++ (if r then [] else gathered members_of page (get_or items k 0)) =
-              shared-members place
-              ∙ ap (λ ys. ys ++ (if at is_real_context place then [] else gathered_in members_of place)) (sym (word member_by))
-              ∙ ap (λ c. member_by (Some (label_of node)) (label_of inner) ++ (if c then [] else gathered_in members_of place)) (sym (r_is ∙ word is_real_context))
-              ∙ ap (λ ys. member_by (Some (label_of node)) (label_of inner) ++ (if r then [] else ys)) (sym (below members_of)) in
+          shared-members place
+          ∙ ap (λ ys. ys ++ (if at is_real_context place then [] else gathered_in members_of place)) (sym (word member_by))
+          ∙ ap (λ c. member_by (Some (label_of node)) (label_of inner) ++ (if c then [] else gathered_in members_of place)) (sym (r_is ∙ word is_real_context))
+          ∙ ap (λ ys. member_by (Some (label_of node)) (label_of inner) ++ (if r then [] else ys)) (sym (below members_of)) in
           appended_twice xs (member_by (Some (label_of node)) (label_of inner)) (if r then [] else gathered members_of page (get_or items k 0)) (of_node (gathered_from members_of (k + 1)) page id) all xs' xs'' first second
           (ap (λ ys. xs ++ (ys ++ of_node (gathered_from members_of (k + 1)) page id)) (sym share_is) ∙ ap (λ ys. xs ++ ys) (sym (step members_of)) ∙ known)

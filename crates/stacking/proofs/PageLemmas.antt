@@ -14,7 +14,8 @@ use Rattle.box_tree.proofs.PlacedLemmas.{trees_from, trees_from-all, IsChildAt, 
 use Rattle.box_tree.proofs.SubtreeLemmas.{at_place, place, the_child, children_is, parent_above, IsAbove}
 use Rattle.box_tree.proofs.MoveLemmas.{each-placed}
 use Rattle.box_tree.proofs.PlanLemmas.{id-placed_in}
-use Rattle.stacking.specs.Painting.{Share, at, parent_of, share_of, shares_of, shares_in}
+use Rattle.box_tree.specs.Containing.{parent_of}
+use Rattle.stacking.specs.Painting.{Share, at, share_of, shares_of, shares_in}
 use Rattle.stacking.specs.OnPage.{of_node, gathered_in, gathered}
 
 -- what is gathered from the children from one on
@@ -80,7 +81,7 @@ module _ (page : Contents) (valid : IsValid page) (id : ℕ) (node : Node) (seen
   parent-seen other parent seen' =
       let above = parent_is_above other in
       let seen'' : Some (node_at (record { label = above.label; above = above.others; below = above.below })) ≡ Some parent =
-          sym (ap (option_map node_at) (ap (placed_of page) (parent_id-seen ∙ ap parent_id above.above_is) ∙ above.found)) ∙ seen' in
+      sym (ap (option_map node_at) (ap (placed_of page) (parent_id-seen ∙ ap parent_id above.above_is) ∙ above.found)) ∙ seen' in
       let same : node_at (record { label = above.label; above = above.others; below = above.below }) ≡ parent = cc in
       ancestors_parent ∙ ap parent_of above.above_is ∙ ap (λ n. Some (label_of n)) same
     where

@@ -11,7 +11,8 @@ use Rattle.box_tree.specs.Contents.{Contents, node_of, placed_of, ancestors_of, 
 use Rattle.box_tree.specs.Kept.{label_of}
 use Rattle.stacking.specs.declared.pieces.LinePart.{LinePart}
 use Rattle.stacking.specs.declared.members.Member.{Member}
-use Rattle.stacking.specs.Painting.{at, parent_of, has_head, is_inline, is_replaced_kind, is_block, is_float, box_items, own, content_item, content, head, own_pieces, shares_in, reach, blocks, floats, pieces, context_members, level_of, is_on_lower_level, is_on_lower_line, painted_piece, painted_member, lines, flat, body, context_list, layer}
+use Rattle.box_tree.specs.Containing.{parent_of}
+use Rattle.stacking.specs.Painting.{at, has_head, is_inline, is_replaced_kind, is_block, is_float, box_items, own, content_item, content, head, own_pieces, shares_in, reach, blocks, floats, pieces, context_members, level_of, is_on_lower_level, is_on_lower_line, painted_piece, painted_member, lines, flat, body, context_list, layer}
 use Rattle.stacking.specs.Sorting.{sorted_by}
 use Rattle.stacking.specs.OnPage.{of_node, ids_of, gathered_in, gathered, part_of, line_parts, line_pieces, member_of, members_of, on_side}
 use Rattle.stacking.specs.declared.layer.Side.TheVariants as side

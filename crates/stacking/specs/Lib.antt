@@ -1,4 +1,5 @@
 pub mod Sorting
 pub mod Painting
-pub mod Counting
 pub mod OnPage
+pub mod Contexts
+pub mod Laws

@@ -7,6 +7,7 @@ use Rattle.box_tree.specs.declared.piece.Piece.{Piece}
 use Rattle.box_tree.specs.declared.item.Item.{Item}
 use Rattle.box_tree.specs.declared.item.Part.TheVariants.{Box, Content}
 use Rattle.box_tree.specs.Forest.{Label, Forest, End, Grow, height_of, Placed}
+use Rattle.box_tree.specs.Containing.{parent_of}
 use Rattle.box_tree.specs.Used.{is_floating, is_block_level, is_block_container, is_atomic, is_positioned, is_real_context, stack_level, is_in_flow}
 use Rattle.stacking.specs.Sorting.{sorted_by}
 
@@ -52,11 +53,6 @@ is_atom parent n = is_in_flow parent n && is_atomic parent n
 -- a node whose own boxes are painted below all that is in it
 unfoldable pub has_head : Option Label → Label → Bool
 has_head parent n = is_block_level parent n || is_atomic parent n
-
--- the parent of a node that has these ancestors, nearest first
-abbrev pub parent_of : List Label → Option Label
-parent_of [] = None
-parent_of (parent ∷ above) = Some parent
 
 -- such a word of a node in its place
 abbrev pub at : {A : Type 0} → (Option Label → Label → A) → Placed → A

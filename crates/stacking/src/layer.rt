@@ -109,12 +109,7 @@ fn paint_member(
 
 // Appends a node painted as one, without its members.
 #[cycle(walks)]
-fn paint_flat(
-    alloc: Global,
-    page: &Page,
-    id: u32,
-    items: &mut Vec<Item>,
-) -> Result<(), OutOfMemory>
+fn paint_flat(alloc: Global, page: &Page, id: u32, items: &mut Vec<Item>) -> Result<(), OutOfMemory>
     requires valid { IsValid page.now.contents }
     requires there { IsTrue (has_id page.now.contents id) }
     ensures { IfOk result (λ _. items.new.items ≡ items.old.items ++ of_node flat page.now.contents id) }
@@ -125,12 +120,7 @@ fn paint_flat(
 
 // Appends the boxes of the blocks in a node; the floats; its lines, and those of the blocks.
 #[cycle(walks)]
-fn paint_body(
-    alloc: Global,
-    page: &Page,
-    id: u32,
-    items: &mut Vec<Item>,
-) -> Result<(), OutOfMemory>
+fn paint_body(alloc: Global, page: &Page, id: u32, items: &mut Vec<Item>) -> Result<(), OutOfMemory>
     requires valid { IsValid page.now.contents }
     requires there { IsTrue (has_id page.now.contents id) }
     ensures { IfOk result (λ _. items.new.items ≡ items.old.items ++ of_node body page.now.contents id) }
@@ -143,12 +133,7 @@ fn paint_body(
 }
 
 // Appends the boxes of the blocks in a node.
-fn push_blocks(
-    page: &Page,
-    id: u32,
-    ids: &[u32],
-    items: &mut Vec<Item>,
-) -> Result<(), OutOfMemory>
+fn push_blocks(page: &Page, id: u32, ids: &[u32], items: &mut Vec<Item>) -> Result<(), OutOfMemory>
     requires valid { IsValid page.now.contents }
     requires there { IsTrue (has_id page.now.contents id) }
     requires ids { ids.now ≡ ids_of (of_node blocks page.now.contents id) }
@@ -242,3 +227,6 @@ fn paint_parts(
     }
     Ok(())
 }
+
+#[cfg(test)]
+mod tests;

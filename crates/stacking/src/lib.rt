@@ -5,7 +5,9 @@
 //! nodes.
 #![tactic(auto)]
 
+mod context;
 mod items;
+pub mod laws;
 mod layer;
 mod members;
 mod memory;
@@ -14,5 +16,6 @@ mod reach;
 mod reading;
 mod roles;
 
+pub use context::context_of;
 pub use layer::layer_of;
 pub use memory::OutOfMemory;

@@ -8,7 +8,7 @@ ghost use Rattle.stacking.specs.OnPage.{of_node, gathered, member_of, members_of
 
 use crate::memory::OutOfMemory;
 use crate::reading::read;
-use crate::roles::is_member;
+use crate::roles::{is_member, keeps_members};
 use box_tree::{Node, Page, is_real_context, stack_level};
 use std::alloc::Global;
 
@@ -48,7 +48,7 @@ fn push_below(page: &Page, id: u32, members: &mut Vec<Member>) -> Result<(), Out
     for child in node.children.as_slice() {
         let inner = read(page, *child);
         push_member(node, inner, members)?;
-        if !is_real_context(Some(node), inner) {
+        if !keeps_members(Some(node), inner) {
             push_below(page, *child, members)?;
         }
     }

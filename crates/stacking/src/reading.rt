@@ -2,7 +2,7 @@ ghost use Rattle.std.specs.Prelude.{◌≡◌, ◌<◌, Some, IsTrue};
 ghost use Rattle.std.specs.Option.{option_map, option_copied};
 ghost use Rattle.box_tree.specs.Contents.{IsValid, has_id, node_of, ancestors_of};
 ghost use Rattle.box_tree.specs.Kept.{label_of};
-ghost use Rattle.stacking.specs.Painting.{parent_of};
+ghost use Rattle.box_tree.specs.Containing.{parent_of};
 
 use box_tree::{Node, Page};
 use fractions::{Blank, Brand, Ledger, Steps};

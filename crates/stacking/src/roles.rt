@@ -1,6 +1,7 @@
 ghost use Rattle.std.specs.Prelude.{◌≡◌};
 ghost use Rattle.std.specs.Option.{option_map, option_copied};
 ghost use Rattle.box_tree.specs.Kept.{label_of};
+ghost use Rattle.box_tree.specs.Used.{is_real_context};
 ghost use Rattle.stacking.specs.Painting.{is_text_kind, is_inline_kind, is_replaced_kind, is_entered, is_block, is_member, is_float, is_inline, is_atom, has_head};
 
 use box_tree::{
@@ -94,4 +95,11 @@ pub(crate) fn has_head(parent: Option<&Node>, node: &Node) -> bool
     ensures { result ≡ has_head (option_map label_of (option_copied parent.entry)) (label_of node.now) }
 {
     is_block_level(parent, node) || is_atomic(parent, node)
+}
+
+// Whether the members below a node are its own, and not those of the stacking context around it.
+pub(crate) fn keeps_members(above: Option<&Node>, node: &Node) -> bool
+    ensures { result ≡ is_real_context (option_map label_of (option_copied above.entry)) (label_of node.now) }
+{
+    is_real_context(above, node)
 }

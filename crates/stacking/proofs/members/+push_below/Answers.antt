@@ -6,7 +6,7 @@ use Rattle.stacking.specs.declared.members.Member.{Member}
 use Rattle.stacking.specs.OnPage.{members_of}
 use Rattle.stacking.proofs.GatherLemmas.{there, deeper, not_deepest, members-more, gathered-all}
 use Rattle.stacking.proofs.members.+push_below.Goals as goal
-use Rattle.stacking.proofs.members.+push_below.Goals.{then-not-is_real_context+in_ok-push_below, else-not-is_real_context}
+use Rattle.stacking.proofs.members.+push_below.Goals.{then-not-keeps_members+in_ok-push_below, else-not-keeps_members}
 
 pub loop-child-init : goal.loop-child-init
 loop-child-init t c = refl
@@ -26,9 +26,9 @@ loop-child-preserved t c =
     let page = c.args.page.now.contents in
     let more = members-more page c.requires.valid c.args.id c.read-node.result.now c.read-node.ensures c.as_slice-child-items.result.now c.as_slice-child-items.ensures c.loop-child.child-index c.loop-child-test.true c.read-inner.result.now c.read-inner.ensures in
     let items_of = λ (v : Vec Member Global). v.items in
-    elim c.if-not-is_real_context.branch [
-      | then-not-is_real_context+in_ok-push_below w ↦ more false (sym w.if-not-is_real_context.true ∙ c.is_real_context.ensures) c.loop-child.members.items c.push_member.new.members.items c.if-not-is_real_context.members.items _ c.in_ok-push_member.ensures (ap items_of w.members-is ∙ w.in_ok-push_below.ensures) c.loop-child.invariant
-      | else-not-is_real_context w ↦ more true (sym w.if-not-is_real_context.false ∙ c.is_real_context.ensures) c.loop-child.members.items c.push_member.new.members.items c.if-not-is_real_context.members.items _ c.in_ok-push_member.ensures (ap items_of w.members-is ∙ sym (append-nil c.push_member.new.members.items)) c.loop-child.invariant
+    elim c.if-not-keeps_members.branch [
+      | then-not-keeps_members+in_ok-push_below w ↦ more false (sym w.if-not-keeps_members.true ∙ c.keeps_members.ensures) c.loop-child.members.items c.push_member.new.members.items c.if-not-keeps_members.members.items _ c.in_ok-push_member.ensures (ap items_of w.members-is ∙ w.in_ok-push_below.ensures) c.loop-child.invariant
+      | else-not-keeps_members w ↦ more true (sym w.if-not-keeps_members.false ∙ c.keeps_members.ensures) c.loop-child.members.items c.push_member.new.members.items c.if-not-keeps_members.members.items _ c.in_ok-push_member.ensures (ap items_of w.members-is ∙ sym (append-nil c.push_member.new.members.items)) c.loop-child.invariant
     ]
 
 pub returns : goal.returns
