@@ -1,3 +1,3 @@
-pub mod WalkLemmas
+pub mod RootLemmas
 pub mod OnceLemmas
 pub mod AdmissionLemmas

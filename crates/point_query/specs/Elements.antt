@@ -1,5 +1,5 @@
 -- Which elements lie under a point of the viewport (CSSOM View, `elementsFromPoint`).
-use Rattle.std.specs.Prelude.{ℕ, ◌+◌, ◌-◌, length, slice_get, List, [], ◌∷◌, ◌++◌, map, reverse, Option, Bool, false, not, ◌&&◌, if◌then◌else◌, ◌==◌, ℤ, pos, ◌+ℤ◌, ◌*ℤ◌, int_le, int_lt}
+use Rattle.std.specs.Prelude.{ℕ, ◌+◌, ◌-◌, length, slice_get, List, [], ◌∷◌, ◌++◌, map, reverse, Option, Bool, false, not, ◌&&◌, if◌then◌else◌, ◌==◌, ℤ, pos, ◌+ℤ◌, ◌-ℤ◌, ◌*ℤ◌, int_le, int_lt}
 use Rattle.std.specs.Option.{option_map_or}
 use Rattle.std.specs.List.{filter}
 use Rattle.box_tree.specs.declared.kind.Kind.{Kind}
@@ -9,10 +9,12 @@ use Rattle.box_tree.specs.declared.item.Part.{Part}
 use Rattle.box_tree.specs.declared.item.Part.TheVariants.{Box, Content, Outline}
 use Rattle.box_tree.specs.declared.piece.Piece.{Piece}
 use Rattle.box_tree.specs.declared.viewport.Viewport.{Viewport}
-use Rattle.box_tree.specs.Forest.{Label, Forest, End, Grow, roots_of}
+use Rattle.box_tree.specs.Forest.{Label, roots_of}
 use Rattle.box_tree.specs.Contents.{Contents, placed_of, parent_id}
 use Rattle.spaces.specs.declared.space.FinePoint.{FinePoint}
-use Rattle.spaces.specs.Spaces.{local_point}
+use Rattle.spaces.specs.Spaces.{top_border, right_border, bottom_border, left_border, local_point}
+use Rattle.stacking.specs.Painting.{layer}
+use Rattle.stacking.specs.OnPage.{of_node}
 
 -- whether a coordinate in fine units lies between two in units: from the first on, and before the second
 abbrev pub lies_between : ℤ → ℤ → ℤ → Bool
@@ -22,10 +24,17 @@ lies_between from before at = int_le (pos 64 *ℤ from) at && int_lt at (pos 64 
 abbrev pub box_holds : Piece → FinePoint → Bool
 box_holds box at = lies_between box.l (box.l +ℤ box.w) at.x && lies_between box.t (box.t +ℤ box.h) at.y
 
--- whether the area of a part of a node holds a point: of a box that box; contents and outlines aren't painted yet
+-- whether the padding box of a node with this border box holds a point: the border box without its borders (CSS 2.2, 8.1)
+abbrev pub padding_box_holds : Label → Piece → FinePoint → Bool
+padding_box_holds n box at =
+    lies_between (box.l +ℤ left_border n) ((box.l +ℤ box.w) -ℤ right_border n) at.x
+    && lies_between (box.t +ℤ top_border n) ((box.t +ℤ box.h) -ℤ bottom_border n) at.y
+
+-- whether the area of a part of a node holds a point: of a box that box, of the content of an image the padding box of its
+-- box; outlines aren't painted yet
 abbrev pub part_holds : Label → Part → FinePoint → Bool
 part_holds n (Box place) at = option_map_or (λ box. box_holds box at) (slice_get n.boxes place) false
-part_holds n Content at = false
+part_holds n Content at = option_map_or (λ box. padding_box_holds n box at) (slice_get n.boxes 0) false
 part_holds n Outline at = false
 
 -- whether an item is admitted at a point of the viewport: its area holds the local point of its node
@@ -44,20 +53,6 @@ element_as Text parent own = parent
 -- the element of an item: its node, and for the box of a text the parent of that
 abbrev pub element_of : Contents → Item → ℕ
 element_of page item = option_map_or (λ p. element_as p.label.kind (parent_id p.above) p.label.id) (placed_of page item.node) item.node
-
--- the items of a node from this place on, one for each of these boxes
-abbrev pub items_from : ℕ → ℕ → List Piece → List Item
-items_from id place [] = []
-items_from id place (box ∷ boxes) = record { node = id; part = Box place } ∷ items_from id (place + 1) boxes
-
--- the items of trees in tree order
-abbrev pub items_in : Forest → List Item
-items_in End = []
-items_in (Grow n below others) = items_from n.id 0 n.boxes ++ (items_in below ++ items_in others)
-
--- the painting walk from the root, from bottom to top: blocks in tree order (CSS 2.2, Appendix E)
-abbrev pub layer : Contents → List Item
-layer page = items_in page.tree
 
 -- each element at its first place only
 abbrev pub each_once : List ℕ → List ℕ
@@ -83,7 +78,7 @@ elements_of page x y items = map (element_of page) (filter (admits page x y) ite
 -- the elements from the point, from top to bottom, where these ids are the root's or none
 abbrev pub elements_with : Contents → ℤ → ℤ → List ℕ → List ℕ
 elements_with page x y [] = []
-elements_with page x y (root ∷ others) = then_root root (each_once (elements_of page x y (reverse (layer page))))
+elements_with page x y (root ∷ others) = then_root root (each_once (elements_of page x y (reverse (of_node layer page root))))
 
 -- the elements from the point: none outside the viewport or without a root; else the painting walk reversed, kept
 -- where admitted, each item turned into its element, each element once, and then the root

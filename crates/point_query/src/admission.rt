@@ -1,9 +1,9 @@
 // Which items are admitted at a point of the viewport, and what element each of them belongs to.
-ghost use Rattle.std.specs.Prelude.{◌≡◌, ◌+ℤ◌, ◌∷◌, [], slice_get, false};
+ghost use Rattle.std.specs.Prelude.{◌≡◌, ◌≤◌, ◌^◌, ◌+ℤ◌, ◌-ℤ◌, ◌∷◌, [], slice_get, unsigned_abs, false};
 ghost use Rattle.std.specs.Option.{option_map_or, option_to_list};
 ghost use Rattle.box_tree.specs.Contents.{IsWithin};
 ghost use Rattle.box_tree.specs.Kept.{label_of};
-ghost use Rattle.point_query.specs.Elements.{elements_of, element_as, part_holds, box_holds, lies_between};
+ghost use Rattle.point_query.specs.Elements.{elements_of, element_as, part_holds, box_holds, padding_box_holds, lies_between};
 
 use box_tree::{Item, Kind, Node, Page, Part, Piece};
 use fractions::{Ledger, Steps};
@@ -49,7 +49,8 @@ fn part_holds(node: &Node, part: Part, at: FinePoint) -> bool
 {
     match part {
         Part::Box { place } => some_box_holds(node.boxes.as_slice(), place, at),
-        Part::Content | Part::Outline => false,
+        Part::Content => content_holds(node, at),
+        Part::Outline => false,
     }
 }
 
@@ -63,18 +64,44 @@ fn some_box_holds(boxes: &[Piece], place: u32, at: FinePoint) -> bool
     }
 }
 
+// Whether the content of a node holds a point: the padding box of its first box, where there is one.
+fn content_holds(node: &Node, at: FinePoint) -> bool
+    ensures { result ≡ option_map_or (λ box. padding_box_holds (label_of node.now) box at) (slice_get node.now.boxes 0) false }
+{
+    match node.boxes.as_slice().first() {
+        Some(piece) => padding_box_holds(node, piece, at),
+        None => false,
+    }
+}
+
+// Whether the padding box of a node with this border box holds a point.
+fn padding_box_holds(node: &Node, piece: &Piece, at: FinePoint) -> bool
+    ensures { result ≡ padding_box_holds (label_of node.now) piece.now at }
+{
+    let [top, right, bottom, left] = node.style.border;
+    let box_left = i128::from(piece.l);
+    let box_top = i128::from(piece.t);
+    let box_right = box_left + i128::from(piece.w);
+    let box_bottom = box_top + i128::from(piece.h);
+    lies_between(box_left + i128::from(left), box_right - i128::from(right), at.x)
+        && lies_between(box_top + i128::from(top), box_bottom - i128::from(bottom), at.y)
+}
+
 // Whether a border box holds a point.
 fn box_holds(piece: &Piece, at: FinePoint) -> bool
     ensures { result ≡ box_holds piece.now at }
 {
-    lies_within(piece.l, piece.w, at.x) && lies_within(piece.t, piece.h, at.y)
+    let box_left = i128::from(piece.l);
+    let box_top = i128::from(piece.t);
+    lies_between(box_left, box_left + i128::from(piece.w), at.x)
+        && lies_between(box_top, box_top + i128::from(piece.h), at.y)
 }
 
-// Whether a span in units holds a coordinate in fine units, its start and not its end.
-fn lies_within(from: i64, side: i64, at: i128) -> bool
-    ensures { result ≡ lies_between from (from +ℤ side) at }
+// Whether a coordinate in fine units lies between two in units, from the first on and before the second.
+fn lies_between(from: i128, before: i128, at: i128) -> bool
+    requires from { unsigned_abs from ≤ 2 ^ 66 }
+    requires before { unsigned_abs before ≤ 2 ^ 66 }
+    ensures { result ≡ lies_between from before at }
 {
-    let from = i128::from(from);
-    let before = from + i128::from(side);
     64 * from <= at && at < 64 * before
 }

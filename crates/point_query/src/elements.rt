@@ -5,10 +5,10 @@ ghost use Rattle.box_tree.specs.Forest.{roots_of};
 ghost use Rattle.point_query.specs.Elements.{elements_of, elements_from_point, element_from_point, each_once, is_inside, then_root, ends_with};
 
 use crate::admission::admitted_element;
-use crate::painting::painted;
 use box_tree::{Item, Page, Viewport};
 use fractions::{Ledger, Steps};
 use std::alloc::Global;
+use stacking::layer_of;
 use std::collections::BTreeSet;
 use tree_edits::{Engine, OutOfMemory};
 
@@ -34,7 +34,10 @@ pub fn hit<L: Ledger>(
     if !holds_point(&viewport, x, y) {
         return Ok(Vec::new(alloc));
     }
-    let mut items = painted(alloc, page, root, steps)?;
+    page.validity();
+    let Ok(mut items) = layer_of(alloc, page, root) else {
+        return Err(OutOfMemory);
+    };
     items.reverse();
     let elements = admitted_elements(alloc, page, &items, x, y, steps)?;
     let mut ids = each_once(alloc, &elements)?;
