@@ -7,7 +7,7 @@ use Rattle.std.proofs.lemmas.List.{append-nil, take-append-drop, append_cancel_r
 use Rattle.box_tree.specs.Contents.{Contents}
 use Rattle.hit_script.specs.Answered.{Answers, Hands}
 use Rattle.hit_script.specs.Ending.{Ends, Moment}
-use Rattle.hit_script.specs.Ends.{Read, Rose, TakesAll, TakesFront}
+use Rattle.hit_script.specs.Ends.{Read, ReadsAtMost, Rose, TakesAll, TakesFront}
 use Rattle.hit_script.specs.Lines.{lines, whole_lines, unfinished}
 use Rattle.hit_script.specs.Log.{Entry, Grows, scripted_lines, scripted_replies}
 use Rattle.hit_script.specs.Outcome.{fault_status}
@@ -269,6 +269,17 @@ ends_full {start} {finish} how ends script told long full = elim (too_much_or_no
       let same : drop short.0 script ≡ drop (2 ^ 32) script = same_Some _ _ (sym short.3 ∙ full) in
       let sizes : length script - short.0 ≡ length script - 2 ^ 32 = sym (length-drop short.0 script) ∙ ap length same ∙ length-drop (2 ^ 32) script in
       absurd (omega (arith, sizes, short.1, short.2, long))
+]
+
+-- however it ended, it has read no more than it may
+pub ends_at_most : {start finish : Moment} (how : Status) → Ends how start finish → ReadsAtMost (2 ^ 32) start.left finish.left
+ends_at_most {start} {finish} how ends script told = elim (too_much_or_not how) [
+  | inl is ↦
+      let full = ends.too_much is script told in
+      (2 ^ 32, omega arith, full.0, full.1)
+  | inr isnt ↦
+      let short = ends.not_too_much isnt script told in
+      (short.0, omega (arith, short.1), short.2, short.3)
 ]
 
 -- What a sink took, by what was handed to it.

@@ -1,7 +1,7 @@
 // The loop over the pieces of a script, and the top call.
 ghost use Rattle.std.specs.Prelude.{◌≡◌, ◌≢◌, ◌↔◌, ◌⊎◌, ℕ, List, [], ◌++◌, ◌+◌, ◌<◌, ◌≤◌, ◌^◌, Option, Some, IfSome, IsSome, IsSomeAnd, length, drop};
 ghost use Rattle.hit_script.specs.Ending.{Ends, Moment};
-ghost use Rattle.hit_script.specs.Ends.{Rose, TakesAll, TakesFront};
+ghost use Rattle.hit_script.specs.Ends.{ReadsAtMost, Rose, TakesAll, TakesFront};
 ghost use Rattle.hit_script.specs.Lines.{whole_lines};
 ghost use Rattle.hit_script.specs.Outcome.{fault_status};
 ghost use Rattle.hit_script.specs.Log.{Entry, Grows, scripted_replies};
@@ -102,6 +102,9 @@ pub fn run<S: Source, K: Sink, D: Desk, L: Ledger>(
     ensures headline { result ≡ Status.Done → (script : List ℕ) → S.left source.old ≡ Some script → IsSome (D.page desk.old)
         → TakesAll (K.taken sink.old) (K.taken sink.new) (replies script) }
     ensures to_the_end { result ≡ Status.Done → (script : List ℕ) → S.left source.old ≡ Some script → S.left source.new ≡ Some [] }
+
+    // However it ends, at most 2^32 bytes were read.
+    ensures most { ReadsAtMost (2 ^ 32) (S.left source.old) (S.left source.new) }
 
     // However it ends, the sink has taken a front of the same replies.
     ensures front { words.now ≡ [] → (script : List ℕ) → S.left source.old ≡ Some script → IsSome (D.page desk.old)
