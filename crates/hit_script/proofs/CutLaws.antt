@@ -6,11 +6,11 @@ use Rattle.std.proofs.lemmas.Bool.Decides.{nat_tests}
 use Rattle.std.proofs.lemmas.List.{append-nil, length-take-le, take_all, take_min, take_rest, nil_from_length}
 use Rattle.std.proofs.Math.Seq.{take-length, take-add, take-append-add}
 use Rattle.script_lines.specs.Command.{is_long}
-use Rattle.hit_script.specs.Cutting.{Counted, Cutting, counted, counted_on, cut_by_newline, counted_behind, cutting, with_one_before}
+use Rattle.hit_script.specs.Cutting.{Counted, Cutting, counted, counted_on, cut_by_newline, cutting}
 use Rattle.hit_script.specs.declared.cutter.Cut.{Cut}
 use Rattle.hit_script.specs.declared.cutter.Cut.TheVariants.{More, Whole, Long}
 use Rattle.hit_script.specs.Lines.{HasBegun, lines, has_newline, whole_lines, unfinished}
-use Rattle.hit_script.proofs.LineLaws.{neither, lines_next, lines_last, whole_lines_next, whole_lines_none, unfinished_next, unfinished_none, nothing_whole, nothing_unfinished, no_lines, no_newline}
+use Rattle.hit_script.proofs.LineLaws.{neither, lines_next, lines_last, whole_lines_next, whole_lines_none, unfinished_next, unfinished_none, nothing_whole, nothing_unfinished, no_lines}
 
 -- What is counted on.
 

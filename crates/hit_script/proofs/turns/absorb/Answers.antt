@@ -1,6 +1,5 @@
-use Rattle.std.proofs.Common.{◌≡◌, ◌+◌, ◌-◌, [], ◌∷◌, ◌++◌, ℕ, List, length, length-take, length-drop, take, drop, refl, sym, ap, ◌∙◌, arith}
+use Rattle.std.proofs.Common.{◌-◌, ◌++◌, ℕ, length, length-take, length-drop, take, drop, sym, ap, ◌∙◌, arith}
 use Rattle.std.proofs.lemmas.List.{append-nil}
-use Rattle.std.proofs.Math.Seq.{take-length}
 use Rattle.hit_script.specs.Cutting.{counted}
 use Rattle.hit_script.specs.Lines.{HasBegun, lines, whole_lines, unfinished}
 use Rattle.hit_script.proofs.Answering.{appends_nothing, appends_both}

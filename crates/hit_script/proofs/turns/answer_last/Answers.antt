@@ -1,5 +1,4 @@
-use Rattle.std.proofs.Common.{sym, ap, ◌∙◌, arith}
-use Rattle.hit_script.specs.Cutting.{Counted}
+use Rattle.std.proofs.Common.{sym, ◌∙◌}
 use Rattle.hit_script.proofs.Answering.{answered_last, appends_nothing}
 use Rattle.hit_script.proofs.CutLaws.{no_bytes}
 use Rattle.hit_script.proofs.LineLaws.{no_lines}

@@ -1,4 +1,4 @@
-use Rattle.std.proofs.Common.{◌++◌, ◌∙◌}
+use Rattle.std.proofs.Common.{◌++◌}
 use Rattle.hit_script.specs.Lines.{lines, whole_lines}
 use Rattle.hit_script.proofs.Outcomes.{on_ok}
 use Rattle.hit_script.proofs.Endings.{handed_all, handed_front}
