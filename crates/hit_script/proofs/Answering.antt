@@ -9,8 +9,13 @@ use Rattle.script_lines.specs.declared.command.Command.{Command}
 use Rattle.script_lines.specs.declared.command.LineFault.{LineFault}
 use Rattle.script_lines.specs.declared.command.LineFault.TheVariants as fault
 use Rattle.hit_script.specs.Answered.{Replies, Answers, Appends}
+use Rattle.hit_script.specs.Cutting.{Counted, counted, cut_by_newline}
+use Rattle.hit_script.specs.declared.cutter.Cut.TheVariants.{Long}
+use Rattle.hit_script.specs.Lines.{HasBegun, lines}
 use Rattle.hit_script.specs.Log.{Entry, Grows, Scripted, scripted_command, scripted_line, scripted_lines, text_before}
 use Rattle.hit_script.specs.Script.{Answer, answer_to, answer_to_command, asked_by, replies_from, page_behind}
+use Rattle.hit_script.proofs.CutLaws.{whole_front, long_line, last_line}
+use Rattle.hit_script.proofs.Meanings.{asks_long}
 use Rattle.hit_script.proofs.Logs.{grows_scripted, scripted_nothing, scripted_both}
 use Rattle.hit_script.proofs.Runs.{replies_from-append, page_behind-append}
 
@@ -62,6 +67,37 @@ pub answered_by_meaning : {T E : Type 0} (r : Result T E) (line : List ℕ) (ask
     → OnOk r (Appends (Answers (line ∷ []) page0 page log0 log) old new)
 answered_by_meaning (Ok x) line asked page0 page log0 log old new asks means no_want (text, is, replies) = (text, is, answers_line line asked (asks ∙ ap Some (sym (means no_want))) replies)
 answered_by_meaning (Err e) line asked page0 page log0 log old new asks means no_want replies = tt
+
+-- The same of a line that was cut.
+
+-- one that is too long has its fault
+pub answered_long : {T E : Type 0} (r : Result T E) (cutter : Counted) (page0 page : Option Contents) (log0 log : Option (List Entry)) (old new : List ℕ)
+    → cut_by_newline cutter ≡ Long
+    → OnOk r (Appends (Replies (Err fault.Long) page0 page log0 log) old new)
+    → OnOk r ((line : List ℕ) → cutter ≡ counted line → Appends (Answers (line ∷ []) page0 page log0 log) old new)
+answered_long (Ok x) cutter page0 page log0 log old new is (text, appended, replies) = λ line counts.
+    (text, appended, answers_line line (Err fault.Long) (asks_long line (long_line line (ap cut_by_newline (sym counts) ∙ is))) replies)
+answered_long (Err e) cutter page0 page log0 log old new is replies = tt
+
+-- one that is whole was kept as it is
+pub answered_whole : {T E : Type 0} (r : Result T E) (cutter : Counted) (kept : List ℕ) (page0 page : Option Contents) (log0 log : Option (List Entry)) (old new : List ℕ)
+    → cut_by_newline cutter ≢ Long
+    → kept ≡ cutter.front
+    → OnOk r (Appends (Answers (kept ∷ []) page0 page log0 log) old new)
+    → OnOk r ((line : List ℕ) → cutter ≡ counted line → Appends (Answers (line ∷ []) page0 page log0 log) old new)
+answered_whole (Ok x) cutter kept page0 page log0 log old new short is replies = λ line counts.
+    let whole : (counted line).front ≡ line = whole_front line (λ long. short (ap cut_by_newline counts ∙ long)) in
+    let same : kept ≡ line = is ∙ ap (λ (c : Counted). c.front) counts ∙ whole in
+    rw same at replies
+answered_whole (Err e) cutter kept page0 page log0 log old new short is replies = tt
+
+-- the last line, which counts where it isn't empty
+pub answered_last : {T E : Type 0} (r : Result T E) (cutter : Counted) (page0 page : Option Contents) (log0 log : Option (List Entry)) (old new : List ℕ)
+    → cutter.count ≢ 0
+    → OnOk r ((line : List ℕ) → cutter ≡ counted line → Appends (Answers (line ∷ []) page0 page log0 log) old new)
+    → OnOk r ((begun : List ℕ) → HasBegun cutter begun → Appends (Answers (lines begun) page0 page log0 log) old new)
+answered_last (Ok x) cutter page0 page log0 log old new some replies = λ begun has. rw (last_line cutter begun has some) (replies begun has.counts)
+answered_last (Err e) cutter page0 page log0 log old new some replies = tt
 
 -- lines, and then more
 pub answers_both : (xs ys : List (List ℕ)) {page0 page1 page2 : Option Contents} {log0 log1 log2 : Option (List Entry)} {text more : List ℕ} → Answers xs page0 page1 log0 log1 text → Answers ys page1 page2 log1 log2 more → Answers (xs ++ ys) page0 page2 log0 log2 (text ++ more)

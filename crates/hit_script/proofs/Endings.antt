@@ -5,10 +5,11 @@ use Rattle.std.proofs.lemmas.Option.{same_Some}
 use Rattle.std.proofs.lemmas.Bool.{false≢true}
 use Rattle.std.proofs.lemmas.List.{append-nil, take-append-drop, append_cancel_right, append_cancel_left, length-drop}
 use Rattle.box_tree.specs.Contents.{Contents}
-use Rattle.hit_script.specs.Answered.{Answers, Hands}
+use Rattle.hit_script.specs.Answered.{Answers, Appends, Hands}
+use Rattle.hit_script.specs.Cutting.{Counted}
 use Rattle.hit_script.specs.Ending.{Ends, Moment}
-use Rattle.hit_script.specs.Ends.{Read, Rose, TakesAll, TakesFront}
-use Rattle.hit_script.specs.Lines.{lines, whole_lines, unfinished}
+use Rattle.hit_script.specs.Ends.{Read, ReadsAtMost, Rose, TakesAll, TakesFront}
+use Rattle.hit_script.specs.Lines.{HasBegun, lines, whole_lines, unfinished}
 use Rattle.hit_script.specs.Log.{Entry, Grows, scripted_lines, scripted_replies}
 use Rattle.hit_script.specs.Outcome.{fault_status}
 use Rattle.hit_script.specs.Script.{first_page, replies_from, page_behind}
@@ -271,12 +272,33 @@ ends_full {start} {finish} how ends script told long full = elim (too_much_or_no
       absurd (omega (arith, sizes, short.1, short.2, long))
 ]
 
+-- however it ended, it has read no more than it may
+pub ends_at_most : {start finish : Moment} (how : Status) → Ends how start finish → ReadsAtMost (2 ^ 32) start.left finish.left
+ends_at_most {start} {finish} how ends script told = elim (too_much_or_not how) [
+  | inl is ↦
+      let full = ends.too_much is script told in
+      (2 ^ 32, omega arith, full.0, full.1)
+  | inr isnt ↦
+      let short = ends.not_too_much isnt script told in
+      (short.0, omega (arith, short.1), short.2, short.3)
+]
+
 -- What a sink took, by what was handed to it.
 
-pub handed_all : {T E : Type 0} (r : Result T E) (asked : List (List ℕ)) (page0 page : Option Contents) (log0 log : Option (List Entry)) (before after : Option (List ℕ)) (written : List ℕ) → OnOk r (TakesAll before after written) → Answers asked page0 page log0 log written → OnOk r (Hands (Answers asked page0 page log0 log) before after)
-handed_all (Ok x) asked page0 page log0 log before after written took answers = (written, took, answers)
-handed_all (Err e) asked page0 page log0 log before after written took answers = tt
+pub handed_all : {T E : Type 0} (r : Result T E) (cutter : Counted) (asked : List ℕ → List (List ℕ)) (page0 page : Option Contents) (log0 log : Option (List Entry)) (before after : Option (List ℕ)) (written : List ℕ)
+    → OnOk r (TakesAll before after written)
+    → ((begun : List ℕ) → HasBegun cutter begun → Appends (Answers (asked begun) page0 page log0 log) [] written)
+    → OnOk r ((begun : List ℕ) → HasBegun cutter begun → Hands (Answers (asked begun) page0 page log0 log) before after)
+handed_all (Ok x) cutter asked page0 page log0 log before after written took replies = λ begun has.
+    let (text, is, answers) = replies begun has in
+    (text, all_as before after written text (sym is) took, answers)
+handed_all (Err e) cutter asked page0 page log0 log before after written took replies = tt
 
-pub handed_front : {T E : Type 0} (r : Result T E) (asked : List (List ℕ)) (page : Option Contents) (before after : Option (List ℕ)) (written : List ℕ) → TakesFront before after written → ((was : Contents) → page ≡ Some was → written ≡ replies_from was asked) → OnErr r ((was : Contents) → page ≡ Some was → TakesFront before after (replies_from was asked))
-handed_front (Ok x) asked page before after written front is = tt
-handed_front (Err e) asked page before after written front is = λ was told. front_as before after written (replies_from was asked) (sym (is was told)) front
+pub handed_front : {T E : Type 0} (r : Result T E) (cutter : Counted) (asked : List ℕ → List (List ℕ)) (page0 page : Option Contents) (log0 log : Option (List Entry)) (before after : Option (List ℕ)) (written : List ℕ)
+    → TakesFront before after written
+    → ((begun : List ℕ) → HasBegun cutter begun → Appends (Answers (asked begun) page0 page log0 log) [] written)
+    → OnErr r ((begun : List ℕ) → HasBegun cutter begun → (was : Contents) → page0 ≡ Some was → TakesFront before after (replies_from was (asked begun)))
+handed_front (Ok x) cutter asked page0 page log0 log before after written front replies = tt
+handed_front (Err e) cutter asked page0 page log0 log before after written front replies = λ begun has was told.
+    let (text, is, answers) = replies begun has in
+    front_as before after written (replies_from was (asked begun)) (sym (is ∙ answers.by_page was told)) front

@@ -5,7 +5,7 @@ use Rattle.std.proofs.Math.Bool.{or-true}
 use Rattle.hit_script.specs.Lines.{onto_first, lines, has_newline, whole_lines, unfinished}
 
 -- neither of two tests holds
-neither : (a b : Bool) → (a || b) ≡ false → (a ≡ false) × (b ≡ false)
+pub neither : (a b : Bool) → (a || b) ≡ false → (a ≡ false) × (b ≡ false)
 neither true b e = absurd (both_ways true e refl)
 neither false b e = (refl, e)
 

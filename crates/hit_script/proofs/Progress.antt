@@ -6,13 +6,15 @@ use Rattle.std.proofs.Math.Nat.{min-le_right}
 use Rattle.std.proofs.Math.Seq.{take-add, take-append-add}
 use Rattle.box_tree.specs.Contents.{Contents}
 use Rattle.hit_script.specs.Answered.{Answers, Hands}
+use Rattle.hit_script.specs.Cutting.{Counted, counted}
 use Rattle.hit_script.specs.Ending.{Moment}
 use Rattle.hit_script.specs.Ends.{Read, Rose, TakesAll, TakesFront}
-use Rattle.hit_script.specs.Lines.{lines, whole_lines, unfinished}
+use Rattle.hit_script.specs.Lines.{HasBegun, lines, whole_lines, unfinished}
 use Rattle.hit_script.specs.Log.{Entry, Grows}
 use Rattle.hit_script.specs.Script.{replies_from, page_behind}
 use Rattle.hit_script.proofs.Answering.{answers_nothing, answers_both}
-use Rattle.hit_script.proofs.LineLaws.{unfinished_more, no_lines, nothing_unfinished, nothing_whole}
+use Rattle.hit_script.proofs.CutLaws.{count-counted, length-unfinished}
+use Rattle.hit_script.proofs.LineLaws.{no_newline, newline_not_unfinished, unfinished_more, no_lines, nothing_unfinished, nothing_whole}
 use Rattle.hit_script.proofs.Logs.{grows_same, grows_both}
 use Rattle.hit_script.proofs.Runs.{lines_more}
 
@@ -62,6 +64,19 @@ stands_first start = record {
   read_faults = omega arith;
   write_faults = omega arith;
 }
+
+-- The same by what a cutter has counted.
+pub record Reads (start now : Moment) (read : ℕ) (cutter : Counted) : Type 0 where
+  pub begun : List ℕ
+  pub has_begun : HasBegun cutter begun
+  pub short : length begun ≤ read
+  pub stands : Stands start now read begun
+
+pub reads_first : (start : Moment) → Reads start start 0 (counted [])
+reads_first start = record { begun = []; has_begun = record { counts = refl; open_line = no_newline }; short = omega arith; stands = stands_first start }
+
+pub count_within : {start now : Moment} {read : ℕ} {cutter : Counted} → Reads start now read cutter → cutter.count ≤ read
+count_within {start} {now} {read} {cutter} reads = omega (arith, reads.short, ap (λ (c : Counted). c.count) reads.has_begun.counts ∙ count-counted reads.begun)
 
 -- The page, and what the sink has taken, where the page at the start is told.
 module _ {start now : Moment} {read : ℕ} {begun : List ℕ} (stands : Stands start now read begun) (script : List ℕ) (first : Contents) (told : start.left ≡ Some script) (told_page : start.page ≡ Some first) where
@@ -115,6 +130,22 @@ stands_more {start} {now} {read} {begun} next bytes begun' stands reads goes_on 
   log_grows = grows_both stands.log_grows grows;
   read_faults = omega (arith, stands.read_faults, reads_on);
   write_faults = omega (arith, stands.write_faults, writes_on);
+}
+
+-- The same by what a cutter has counted.
+pub reads_more : {start now : Moment} {read : ℕ} {cutter : Counted} (next : Moment) (bytes : List ℕ) (cutter' : Counted) (reads : Reads start now read cutter)
+    → Read now.left bytes next.left
+    → cutter' ≡ counted (unfinished (reads.begun ++ bytes))
+    → Hands (Answers (lines (whole_lines (reads.begun ++ bytes))) now.page next.page now.log next.log) now.taken next.taken
+    → Grows now.log next.log
+    → now.read_faults ≤ next.read_faults
+    → now.write_faults ≤ next.write_faults
+    → Reads start next (read + length bytes) cutter'
+reads_more {start} {now} {read} {cutter} next bytes cutter' reads taken counts handed grows reads_on writes_on = record {
+  begun = unfinished (reads.begun ++ bytes);
+  has_begun = record { counts = counts; open_line = newline_not_unfinished (reads.begun ++ bytes) };
+  short = omega (arith, length-unfinished (reads.begun ++ bytes), length-append reads.begun bytes, reads.short);
+  stands = stands_more next bytes (unfinished (reads.begun ++ bytes)) reads.stands taken refl handed grows reads_on writes_on;
 }
 
 -- A count that rose after it did not fall rose.

@@ -1,5 +1,6 @@
 pub mod Ends
 pub mod Lines
+pub mod Cutting
 pub mod Outcome
 pub mod Script
 pub mod Log

@@ -1,5 +1,6 @@
 -- The lines of a script.
-use Rattle.std.specs.Prelude.{ℕ, List, [], ◌∷◌, Bool, false, ◌||◌, ◌==◌, if◌then◌else◌}
+use Rattle.std.specs.Prelude.{◌≡◌, ℕ, List, [], ◌∷◌, Bool, false, ◌||◌, ◌==◌, if◌then◌else◌}
+use Rattle.hit_script.specs.Cutting.{Counted, counted}
 
 -- a byte put before the first of some lines, where there is none as a line of its own
 abbrev pub onto_first : ℕ → List (List ℕ) → List (List ℕ)
@@ -24,3 +25,8 @@ whole_lines (byte ∷ bytes) = if has_newline (byte ∷ bytes) then byte ∷ who
 unfoldable pub unfinished : List ℕ → List ℕ
 unfinished [] = []
 unfinished (byte ∷ bytes) = if has_newline (byte ∷ bytes) then unfinished bytes else byte ∷ bytes
+
+-- a cutter has counted these bytes, in which there is no newline
+pub record HasBegun (cutter : Counted) (begun : List ℕ) : Type 0 where
+  pub counts : cutter ≡ counted begun
+  pub open_line : has_newline begun ≡ false

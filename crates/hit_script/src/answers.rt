@@ -1,5 +1,5 @@
 // One line, from its bytes to its reply.
-ghost use Rattle.std.specs.Prelude.{◌≡◌, ◌≢◌, ◌++◌, ◌&&◌, ◌∷◌, [], not, Ok, Err, IfOk, OnOk};
+ghost use Rattle.std.specs.Prelude.{◌≡◌, ◌≢◌, ℕ, List, ◌++◌, ◌&&◌, ◌∷◌, [], not, Ok, Err, IfOk, OnOk};
 ghost use Rattle.box_tree.specs.Contents.{IsWithin};
 ghost use Rattle.box_tree.specs.Edited.{IsInRange};
 ghost use Rattle.script_lines.specs.Blank.{is_blank as blank};
@@ -7,8 +7,10 @@ ghost use Rattle.script_lines.specs.Command.{is_long, IsAskable};
 ghost use Rattle.script_lines.specs.declared.command.Command.TheVariants.{Edit as edit_command, Hit as hit_command, Top as top_command};
 ghost use Rattle.script_lines.specs.Reply.{line_fault_line};
 ghost use Rattle.hit_script.specs.Answered.{Answers, Appends, Replies};
+ghost use Rattle.hit_script.specs.Cutting.{counted, cut_by_newline};
 ghost use Rattle.hit_script.specs.Log.{Grows};
 
+use crate::cutter::{Cut, LineCutter};
 use crate::desks::Desk;
 use crate::memory::OutOfMemory;
 use box_tree::{Done, Edit, EditFault};
@@ -107,8 +109,8 @@ fn is_passed_over(line: &[u8]) -> bool
     line.len() <= LONGEST_LINE && is_blank(line)
 }
 
-/// Answers a line: its reply is put behind what `out` has.
-pub fn answer<D: Desk, L: Ledger>(
+// Answers a line: its reply is put behind what `out` has.
+fn answer<D: Desk, L: Ledger>(
     alloc: Global,
     line: &[u8],
     desk: &mut D,
@@ -122,4 +124,25 @@ pub fn answer<D: Desk, L: Ledger>(
         return Ok(());
     }
     answer_command(alloc, command_of(alloc, line), desk, steps, out)
+}
+
+/// Answers the line that a newline or the end of the script has cut: its reply is put behind what `out` has. Of a line
+/// that is too long no more was kept than its front, and it has its fault.
+pub fn answer_cut<D: Desk, L: Ledger>(
+    alloc: Global,
+    cut: Cut,
+    cutter: &LineCutter,
+    desk: &mut D,
+    steps: &mut Steps<L>,
+    out: &mut Vec<u8>,
+) -> Result<(), OutOfMemory>
+    requires { cut ≡ cut_by_newline cutter.now }
+    ensures log { Grows (D.log desk.old) (D.log desk.new) }
+    ensures reply { OnOk result ((line : List ℕ) → cutter.now ≡ counted line
+        → Appends (Answers (line ∷ []) (D.page desk.old) (D.page desk.new) (D.log desk.old) (D.log desk.new)) out.old.items out.new.items) }
+{
+    match cut {
+        Cut::Long => answer_command(alloc, Err(LineFault::Long), desk, steps, out),
+        _ => answer(alloc, cutter.line(), desk, steps, out),
+    }
 }

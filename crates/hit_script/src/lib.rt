@@ -9,6 +9,7 @@
 
 mod answers;
 mod canned;
+mod cutter;
 mod desks;
 mod memory;
 mod outcome;
@@ -19,6 +20,7 @@ mod transfer;
 mod turns;
 
 pub use canned::{Asked, Canned};
+pub use cutter::{Cut, LineCutter};
 pub use desks::Desk;
 pub use memory::OutOfMemory;
 pub use outcome::Status;

@@ -1,12 +1,13 @@
 // The loop over the pieces of a script, and the top call.
 ghost use Rattle.std.specs.Prelude.{◌≡◌, ◌≢◌, ◌↔◌, ◌⊎◌, ℕ, List, [], ◌++◌, ◌+◌, ◌<◌, ◌≤◌, ◌^◌, Option, Some, IfSome, IsSome, IsSomeAnd, length, drop};
 ghost use Rattle.hit_script.specs.Ending.{Ends, Moment};
-ghost use Rattle.hit_script.specs.Ends.{Rose, TakesAll, TakesFront};
+ghost use Rattle.hit_script.specs.Ends.{ReadsAtMost, Rose, TakesAll, TakesFront};
 ghost use Rattle.hit_script.specs.Lines.{whole_lines};
 ghost use Rattle.hit_script.specs.Outcome.{fault_status};
 ghost use Rattle.hit_script.specs.Log.{Entry, Grows, scripted_replies};
 ghost use Rattle.hit_script.specs.Script.{first_page, page_after, replies};
 
+use crate::cutter::LineCutter;
 use crate::desks::Desk;
 use crate::outcome::Status;
 use crate::sinks::{Sink, SinkFault};
@@ -58,7 +59,9 @@ fn play<S: Source, K: Sink, D: Desk, L: Ledger>(
     let Ok(mut piece) = vec![in alloc; 0u8; PIECE] else {
         return Status::Memory;
     };
-    let mut begun = Vec::new(alloc);
+    let Ok(mut cutter) = LineCutter::new(alloc) else {
+        return Status::Memory;
+    };
     let mut read = 0;
     'pieces: loop {
         let Ok(count) = read_piece(source, &mut piece, room_after(read)) else {
@@ -71,11 +74,11 @@ fn play<S: Source, K: Sink, D: Desk, L: Ledger>(
         if read == MOST {
             return Status::TooMuch;
         }
-        if let Err(fault) = reply_to(alloc, &piece[..count], sink, desk, steps, &mut begun) {
+        if let Err(fault) = reply_to(alloc, &piece[..count], sink, desk, steps, &mut cutter) {
             return status_of(fault);
         }
     }
-    match reply_to_last(alloc, &begun, sink, desk, steps) {
+    match reply_to_last(alloc, &mut cutter, sink, desk, steps) {
         Ok(()) => Status::Done,
         Err(fault) => status_of(fault),
     }
@@ -102,6 +105,9 @@ pub fn run<S: Source, K: Sink, D: Desk, L: Ledger>(
     ensures headline { result ≡ Status.Done → (script : List ℕ) → S.left source.old ≡ Some script → IsSome (D.page desk.old)
         → TakesAll (K.taken sink.old) (K.taken sink.new) (replies script) }
     ensures to_the_end { result ≡ Status.Done → (script : List ℕ) → S.left source.old ≡ Some script → S.left source.new ≡ Some [] }
+
+    // However it ends, at most 2^32 bytes were read.
+    ensures most { ReadsAtMost (2 ^ 32) (S.left source.old) (S.left source.new) }
 
     // However it ends, the sink has taken a front of the same replies.
     ensures front { words.now ≡ [] → (script : List ℕ) → S.left source.old ≡ Some script → IsSome (D.page desk.old)

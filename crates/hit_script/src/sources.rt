@@ -86,6 +86,7 @@ impl Source for Bytes {
         ensures unchanged { OnErr result (self.new.at ≡ self.old.at) }
         ensures never_falls { self.old.faults ≤ self.new.faults }
         ensures as_planned { IsErr result ↔ Contains self.old.failing.items (count_up self.old.calls) }
+        ensures only_failures_count { IfOk result (λ _. self.new.faults ≡ self.old.faults) }
         ensures as_much { IfOk result (λ n. n ≡ min (min (vec_len self.old.bytes - self.old.at) self.old.piece) (length into.old)) }
         ensures calls { self.new.calls ≡ count_up self.old.calls }
         ensures same_plan { (self.new.bytes ≡ self.old.bytes) × (self.new.piece ≡ self.old.piece) × (self.new.failing ≡ self.old.failing) }

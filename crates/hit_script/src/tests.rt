@@ -1,12 +1,13 @@
 // Whole runs, bytes in and bytes out. Each expected output was worked out by hand.
-ghost use Rattle.std.specs.Prelude.{◌≡◌, ◌<◌};
+ghost use Rattle.std.specs.Prelude.{◌≡◌, ◌<◌, None};
 
 use crate::{
-    Asked, Bytes, Calm, Canned, Desk, Failed, OutOfMemory, Sink, SinkFault, Source, Status,
-    StdSink, StdSource, Taken, run,
+    Asked, Bytes, Calm, Canned, Cut, Desk, Failed, LineCutter, OutOfMemory, Sink, SinkFault,
+    Source, Status, StdSink, StdSource, Taken, run,
 };
 use fractions::{Blank, Brand, Ledger, Steps};
 use std::alloc::{AllocError, Global};
+use std::cell::Cell;
 use std::io;
 use std::process::Abort;
 use std::test::Fail;
@@ -26,11 +27,11 @@ const THREE_BLOCKS: &[u8] =
 
 const THREE_BLOCKS_REPLIES: &[u8] = b"node 1\nnode 2\nnode 3\nhit 3 2 1\nhit 1\n";
 
-fn run_on_new_page<S: Source, L: Ledger>(
+fn run_on_new_page<S: Source, K: Sink, L: Ledger>(
     alloc: Global,
     words: &[String],
     source: &mut S,
-    sink: &mut Taken,
+    sink: &mut K,
     blank: Blank,
 ) -> Result<Status, OutOfMemory>
     requires name { blank.name ≡ L.name }
@@ -42,16 +43,20 @@ fn run_on_new_page<S: Source, L: Ledger>(
     Ok(run(alloc, words, source, sink, &mut desk, &mut steps))
 }
 
-fn play_with<S: Source>(
+fn play_with<S: Source, K: Sink>(
     alloc: Global,
     words: &[String],
     source: &mut S,
-    sink: &mut Taken,
+    sink: &mut K,
 ) -> Result<Status, OutOfMemory> {
-    run_on_new_page::<S, Brand>(alloc, words, source, sink, Blank::new(1))
+    run_on_new_page::<S, K, Brand>(alloc, words, source, sink, Blank::new(1))
 }
 
-fn play<S: Source>(alloc: Global, source: &mut S, sink: &mut Taken) -> Result<Status, OutOfMemory> {
+fn play<S: Source, K: Sink>(
+    alloc: Global,
+    source: &mut S,
+    sink: &mut K,
+) -> Result<Status, OutOfMemory> {
     play_with(alloc, &[], source, sink)
 }
 
@@ -151,7 +156,8 @@ fn run_on_canned<L: Ledger>(
     Ok(())
 }
 
-// Each answer is the one that the desk gave, which is asked for the edits and the points of the lines and nothing else.
+// Each answer is the one that the desk gave, which is asked for the edits and the points of the lines and nothing else: a
+// line that asks for nothing, or has a fault, is no call. Of more than 64 calls the first 64 are kept.
 #[test]
 fn the_desk_is_asked_line_by_line(rt: HostRuntime) -> Result<(), Fail> {
     let mut desk = canned(0);
@@ -175,23 +181,17 @@ fn the_desk_is_asked_line_by_line(rt: HostRuntime) -> Result<(), Fail> {
         ]
         .as_slice()
     );
-    Ok(())
-}
-
-// A line that asks for nothing, or has a fault, is no call; of more than 64 calls the first 64 are kept.
-#[test]
-fn a_canned_desk_keeps_its_first_calls(rt: HostRuntime) -> Result<(), Fail> {
-    let mut desk = canned(63);
+    let mut full = canned(63);
     run_on_canned::<Brand>(
         &rt,
         rt.alloc(),
         b" \n{\"op\":\"top\",\"x\":1,\"y\":-2}\n[]\n{\"op\":\"top\",\"x\":3,\"y\":4}\n{\"op\":\"top\",\"x\":5,\"y\":6}\n",
-        &mut desk,
+        &mut full,
         b"top 7\nerr 3 command\ntop 7\ntop 7\n",
         Blank::new(1),
     )?;
-    assert_eq!(rt; desk.count, 65);
-    assert_eq!(rt; desk.asked[63], Asked::Top { x: 1, y: -2 });
+    assert_eq!(rt; full.count, 65);
+    assert_eq!(rt; full.asked[63], Asked::Top { x: 1, y: -2 });
     Ok(())
 }
 
@@ -493,27 +493,114 @@ fn push_nest(script: &mut Vec<u8>, depth: usize) -> Result<(), AllocError> {
     push_line(script, b']', depth)
 }
 
+/// Lines that have a fault, the last of them without a newline.
+const FAULTY_LINES: &[u8] = br#"{"op":"hit","x":1.0,"y":0}
+{"op":"hit","x":1}
+{"op":"top","x":0,"y":0"#;
+
+// A line is tested in this order: too long, blank, no JSON, no command.
 #[test]
 fn lines_are_tested_in_order(rt: HostRuntime) -> Result<(), Fail> {
-    let mut script = Vec::new(rt.alloc());
-    push_line(&mut script, b' ', 0)?;
-    push_line(&mut script, b'a', 1048577)?;
-    push_line(&mut script, b'a', 1048576)?;
-    push_line(&mut script, b' ', 1048577)?;
-    push_line(&mut script, b' ', 1048576)?;
-    push_nest(&mut script, 127)?;
-    push_nest(&mut script, 128)?;
-    script.extend_from_slice(
-        br#"{"op":"hit","x":1.0,"y":0}
-{"op":"hit","x":1}
-{"op":"top","x":0,"y":0"#,
-    )?;
+    let mut hostile = Vec::new(rt.alloc());
+    push_line(&mut hostile, b' ', 0)?;
+    push_line(&mut hostile, b'a', 1048577)?;
+    hostile.extend_from_slice(FAULTY_LINES)?;
     assert_replies(
         &rt,
         rt.alloc(),
-        &script,
-        b"err 1 long\nerr 2 syntax\nerr 1 long\nerr 3 command\nerr 2 syntax\nerr 3 command\nerr 3 command\nerr 2 syntax\n",
+        &hostile,
+        b"err 1 long\nerr 3 command\nerr 3 command\nerr 2 syntax\n",
+    )?;
+    let mut limits = Vec::new(rt.alloc());
+    push_nest(&mut limits, 127)?;
+    push_nest(&mut limits, 128)?;
+    push_line(&mut limits, 255, 1)?;
+    push_line(&mut limits, b'a', 1048576)?;
+    push_line(&mut limits, b' ', 1048577)?;
+    push_line(&mut limits, b' ', 1048576)?;
+    push_line(&mut limits, b'{', 2000000)?;
+    limits.extend_from_slice(b"[]")?;
+    assert_replies(
+        &rt,
+        rt.alloc(),
+        &limits,
+        b"err 3 command\nerr 2 syntax\nerr 2 syntax\nerr 2 syntax\nerr 1 long\nerr 1 long\nerr 3 command\n",
     )
+}
+
+// The longest line that there may be, and one byte more: each is a line of its own, and what is too long is no part of the
+// next line. The last line has no newline.
+#[test]
+fn no_line_runs_into_the_next(rt: HostRuntime) -> Result<(), Fail> {
+    let mut script = Vec::new(rt.alloc());
+    push_line(&mut script, b'a', 1048576)?;
+    push_line(&mut script, b'1', 1048577)?;
+    script.push(b'2')?;
+    for piece in [7, EVER] {
+        let mut source = source_of(rt.alloc(), &script, piece, &[])?;
+        let mut sink = sink_of(rt.alloc(), EVER, &[])?;
+        assert_eq!(rt; play(rt.alloc(), &mut source, &mut sink)?, Status::Done);
+        assert_eq!(rt;
+            sink.bytes.as_slice(),
+            b"err 2 syntax\nerr 1 long\nerr 3 command\n".as_slice()
+        );
+    }
+    Ok(())
+}
+
+// A piece that a cutter takes, with its condition.
+fn take_piece(rt: &impl Abort, cutter: &mut LineCutter, piece: &[u8]) -> (usize, Cut) {
+    let most = 1 << 31;
+    assert!(rt; cutter.length() <= most && piece.len() as u64 <= most);
+    cutter.take_piece(piece)
+}
+
+// A byte that a cutter takes, with its condition.
+fn take_byte(rt: &impl Abort, cutter: &mut LineCutter, byte: u8) -> Cut {
+    assert!(rt; cutter.length() < 1 << 32);
+    cutter.take(byte)
+}
+
+// The longest line that there may be, byte by byte, and one byte more.
+#[test]
+fn lines_at_the_limit_are_cut(rt: HostRuntime) -> Result<(), Fail> {
+    let mut cutter = LineCutter::new(rt.alloc())?;
+    for _ in 0..1048576 {
+        assert_eq!(rt; take_byte(&rt, &mut cutter, b'a'), Cut::More);
+    }
+    assert_eq!(rt; take_byte(&rt, &mut cutter, b'\n'), Cut::Whole);
+    assert_eq!(rt; take_byte(&rt, &mut cutter, b'b'), Cut::More);
+    assert_eq!(rt; take_byte(&rt, &mut cutter, b'\n'), Cut::Long);
+    assert_eq!(rt; cutter.length(), 1048577);
+    assert_eq!(rt; cutter.line().len(), 1048576);
+    Ok(())
+}
+
+// A cutter by itself: bytes one by one and in pieces, a line at its limit and one past it.
+#[test]
+fn a_cutter_counts_what_it_does_not_keep(rt: HostRuntime) -> Result<(), Fail> {
+    let mut cutter = LineCutter::new(rt.alloc())?;
+    assert_eq!(rt; take_byte(&rt, &mut cutter, b'\n'), Cut::Whole);
+    assert_eq!(rt; take_byte(&rt, &mut cutter, b'a'), Cut::More);
+    assert_eq!(rt; take_piece(&rt, &mut cutter, b"bcd\nef"), (4, Cut::Whole));
+    assert_eq!(rt; cutter.line(), b"abcd".as_slice());
+    assert_eq!(rt; cutter.length(), 4);
+    assert_eq!(rt; take_piece(&rt, &mut cutter, b""), (0, Cut::More));
+    cutter.clear();
+    assert_eq!(rt; cutter.line(), b"".as_slice());
+    assert_eq!(rt; cutter.length(), 0);
+    let mut longest = Vec::new(rt.alloc());
+    push_line(&mut longest, b'a', 1048576)?;
+    assert_eq!(rt;
+        take_piece(&rt, &mut cutter, &longest),
+        (1048577, Cut::Whole)
+    );
+    assert_eq!(rt; take_piece(&rt, &mut cutter, b"b"), (1, Cut::More));
+    assert_eq!(rt; take_piece(&rt, &mut cutter, b"\ncd"), (1, Cut::Long));
+    assert_eq!(rt; take_piece(&rt, &mut cutter, b"cd\n"), (3, Cut::Long));
+    assert_eq!(rt; cutter.length(), 1048579);
+    assert_eq!(rt; Some(cutter.line()), longest.get(..1048576));
+    Ok(())
 }
 
 /// The pieces that an end gives or takes, and its calls that fail.
@@ -536,79 +623,108 @@ fn assert_outcome(
     alloc: Global,
     from: Plan<'_>,
     to: Plan<'_>,
-    status: Status,
+    status: u8,
     replies: &[u8],
 ) -> Result<(), Fail> {
     let mut source = source_of(alloc, THREE_BLOCKS, from.piece, from.failing)?;
     let mut sink = sink_of(alloc, to.piece, to.failing)?;
-    assert_eq!(rt; play(alloc, &mut source, &mut sink)?, status);
+    assert_eq!(rt; play(alloc, &mut source, &mut sink)?.number(), status);
     assert_eq!(rt; sink.bytes.as_slice(), replies);
     Ok(())
 }
 
+// Pieces of any size come and go; a failure leaves the replies so far, and the status names the end that failed.
 #[test]
-fn pieces_of_any_size_come_and_go(rt: HostRuntime) -> Result<(), Fail> {
-    let whole = planned(EVER, &[]);
-    for piece in [1, 7, 83] {
-        let small = planned(piece, &[]);
-        assert_outcome(
-            &rt,
-            rt.alloc(),
-            small,
-            whole,
-            Status::Done,
-            THREE_BLOCKS_REPLIES,
-        )?;
-        assert_outcome(
-            &rt,
-            rt.alloc(),
-            whole,
-            small,
-            Status::Done,
-            THREE_BLOCKS_REPLIES,
-        )?;
-    }
-    Ok(())
-}
-
-#[test]
-fn a_failure_leaves_the_replies_so_far(rt: HostRuntime) -> Result<(), Fail> {
+fn runs_end_as_their_ends_do(rt: HostRuntime) -> Result<(), Fail> {
     let alloc = rt.alloc();
     let whole = planned(EVER, &[]);
     let line = planned(83, &[]);
-    assert_outcome(
-        &rt,
-        alloc,
-        planned(83, &[2]),
-        whole,
-        Status::ReadFault,
-        b"node 1\n",
-    )?;
-    assert_outcome(&rt, alloc, planned(83, &[1]), whole, Status::ReadFault, b"")?;
+    for piece in [1, 7, 83, EVER] {
+        let any = planned(piece, &[]);
+        assert_outcome(&rt, alloc, any, whole, 0, THREE_BLOCKS_REPLIES)?;
+        assert_outcome(&rt, alloc, whole, any, 0, THREE_BLOCKS_REPLIES)?;
+    }
+    assert_outcome(&rt, alloc, planned(83, &[1]), whole, 4, b"")?;
+    assert_outcome(&rt, alloc, planned(83, &[2]), whole, 4, b"node 1\n")?;
     assert_outcome(
         &rt,
         alloc,
         planned(EVER, &[2]),
         whole,
-        Status::ReadFault,
+        4,
         THREE_BLOCKS_REPLIES,
     )?;
-    assert_outcome(
-        &rt,
-        alloc,
-        line,
-        planned(EVER, &[1]),
-        Status::WriteFault,
-        b"",
-    )?;
-    assert_outcome(
-        &rt,
-        alloc,
-        line,
-        planned(3, &[2]),
-        Status::WriteFault,
-        b"nod",
-    )
+    assert_outcome(&rt, alloc, line, planned(EVER, &[1]), 5, b"")?;
+    assert_outcome(&rt, alloc, line, planned(3, &[2]), 5, b"nod")
+}
+
+/// A source and a sink with one log between them, which says how many bytes were written before each read.
+#[derive(Drop)]
+struct Logged<'a> {
+    script: &'a [u8],
+    piece: usize,
+    written: &'a Cell<usize>,
+    before_reads: Vec<usize>,
+}
+
+#[derive(Drop)]
+struct Counting<'a> {
+    written: &'a Cell<usize>,
+}
+
+impl<'a> Source for Logged<'a> {
+    ghost left = { λ _. None };
+
+    ghost faults = { λ _. 0 };
+
+    fn read(&mut self, into: &mut [u8]) -> Result<usize, Failed> {
+        // A note that finds no memory is missing in the log.
+        let _ = self.before_reads.push(self.written.get());
+        let count = self.script.len().min(self.piece).min(into.len());
+        into[..count].copy_from_slice(&self.script[..count]);
+        self.script = &self.script[count..];
+        Ok(count)
+    }
+}
+
+impl<'a> Sink for Counting<'a> {
+    ghost taken = { λ _. None };
+
+    ghost faults = { λ _. 0 };
+
+    fn write(&mut self, piece: &[u8]) -> Result<usize, SinkFault> {
+        self.written
+            .set(self.written.get().saturating_add(piece.len()));
+        Ok(piece.len())
+    }
+}
+
+fn assert_written_before_reads(
+    rt: &impl Abort,
+    alloc: Global,
+    piece: usize,
+    expected: &[usize],
+) -> Result<(), Fail> {
+    let written = Cell::new(0);
+    let mut source = Logged {
+        script: THREE_BLOCKS,
+        piece,
+        written: &written,
+        before_reads: Vec::new(alloc),
+    };
+    let mut sink = Counting { written: &written };
+    assert_eq!(rt; play(alloc, &mut source, &mut sink)?, Status::Done);
+    assert_eq!(rt; source.before_reads.as_slice(), expected);
+    Ok(())
+}
+
+// The replies to all lines that are whole are written before the next read. The first three lines have 83 bytes and replies
+// of 7, the others 27 and 29 with replies of 10 and 6.
+#[test]
+fn replies_are_written_before_each_further_read(rt: HostRuntime) -> Result<(), Fail> {
+    assert_written_before_reads(&rt, rt.alloc(), 83, &[0, 7, 14, 21, 37])?;
+    assert_written_before_reads(&rt, rt.alloc(), 100, &[0, 7, 14, 31, 37])?;
+    assert_written_before_reads(&rt, rt.alloc(), EVER, &[0, 37])
 }
 
 #[test]
@@ -617,8 +733,9 @@ fn a_word_is_a_usage_fault(rt: HostRuntime) -> Result<(), Fail> {
     let mut sink = sink_of(rt.alloc(), EVER, &[])?;
     let words = [String::from_str(rt.alloc(), "--load")?];
     let status = play_with(rt.alloc(), &words, &mut source, &mut sink)?;
-    assert_eq!(rt; status, Status::Usage);
+    assert_eq!(rt; (status, status.number()), (Status::Usage, 2));
     assert_eq!(rt; (source.calls, sink.calls), (0, 0));
+    assert_eq!(rt; (Status::Memory.number(), Status::TooMuch.number()), (6, 7));
     Ok(())
 }
 
@@ -673,11 +790,5 @@ fn std_ends_pass_bytes_on_and_count_faults(rt: HostRuntime) -> Result<(), Fail> 
         (source.faults, sink.faults, no_source.faults, no_sink.faults),
         (0, 0, 1, 7)
     );
-    Ok(())
-}
-
-#[test]
-fn the_greatest_status_has_number_seven(rt: HostRuntime) -> Result<(), Fail> {
-    assert_eq!(rt; Status::TooMuch.number(), 7);
     Ok(())
 }

@@ -1,13 +1,15 @@
 // A piece of a script, from its bytes to the replies of its whole lines.
-ghost use Rattle.std.specs.Prelude.{◌≡◌, ◌++◌, ◌∷◌, ◌==◌, ◌≤◌, [], false, Some, Err, OnOk, OnErr, if◌then◌else◌};
+ghost use Rattle.std.specs.Prelude.{◌≡◌, ℕ, List, ◌++◌, ◌+◌, ◌^◌, ◌<◌, ◌≤◌, Some, Err, IfOk, OnOk, OnErr, length, take};
 ghost use Rattle.box_tree.specs.Contents.{Contents};
 ghost use Rattle.hit_script.specs.Answered.{Answers, Appends, Hands};
+ghost use Rattle.hit_script.specs.Cutting.{counted};
 ghost use Rattle.hit_script.specs.Ends.{Rose, TakesFront};
-ghost use Rattle.hit_script.specs.Lines.{lines, has_newline, whole_lines, unfinished};
+ghost use Rattle.hit_script.specs.Lines.{lines, whole_lines, unfinished, HasBegun};
 ghost use Rattle.hit_script.specs.Log.{Grows};
 ghost use Rattle.hit_script.specs.Script.{replies_from};
 
-use crate::answers::answer;
+use crate::answers::answer_cut;
+use crate::cutter::{Cut, LineCutter};
 use crate::desks::Desk;
 use crate::memory::OutOfMemory;
 use crate::sinks::{Sink, SinkFault};
@@ -15,45 +17,56 @@ use crate::transfer::write_all;
 use fractions::{Ledger, Steps};
 use std::alloc::Global;
 
-// Takes a byte of a script behind the line that is begun: a newline ends that line, which is answered.
-fn take_byte<D: Desk, L: Ledger>(
+// Takes the bytes of a piece up to its first newline behind the line that is begun, and answers how many they are. Where
+// they end the line, it is answered.
+fn take_part<D: Desk, L: Ledger>(
     alloc: Global,
-    byte: u8,
+    piece: &[u8],
     desk: &mut D,
     steps: &mut Steps<L>,
-    begun: &mut Vec<u8>,
+    cutter: &mut LineCutter,
     out: &mut Vec<u8>,
-) -> Result<(), OutOfMemory>
-    ensures begun { OnOk result (begun.new.items ≡ (if byte == 10 then [] else begun.old.items ++ byte ∷ [])) }
+) -> Result<usize, OutOfMemory>
+    requires some { 0 < length piece.now }
+    requires fits { cutter.old.count + length piece.now ≤ 2 ^ 32 }
+    ensures some { IfOk result (λ n. 0 < n) }
+    ensures within { IfOk result (λ n. n ≤ length piece.now) }
+    ensures fits { IfOk result (λ n. cutter.new.count ≤ cutter.old.count + n) }
+    ensures begun { IfOk result (λ n. (begun : List ℕ) → HasBegun cutter.old begun → cutter.new ≡ counted (unfinished (begun ++ take n piece.now))) }
     ensures log { Grows (D.log desk.old) (D.log desk.new) }
-    ensures replies { OnOk result (Appends (Answers (if byte == 10 then begun.old.items ∷ [] else []) (D.page desk.old) (D.page desk.new) (D.log desk.old) (D.log desk.new)) out.old.items out.new.items) }
+    ensures replies { IfOk result (λ n. (begun : List ℕ) → HasBegun cutter.old begun
+        → Appends (Answers (lines (whole_lines (begun ++ take n piece.now))) (D.page desk.old) (D.page desk.new) (D.log desk.old) (D.log desk.new)) out.old.items out.new.items) }
 {
-    if byte == b'\n' {
-        answer(alloc, begun, desk, steps, out)?;
-        begun.clear();
-    } else {
-        begun.push(byte)?;
+    let (count, cut) = cutter.take_piece(piece);
+    match cut {
+        Cut::More => Ok(count),
+        _ => {
+            answer_cut(alloc, cut, cutter, desk, steps, out)?;
+            cutter.clear();
+            Ok(count)
+        }
     }
-    Ok(())
 }
 
 /// Takes a piece of a script behind the line that is begun. The replies to the lines that are whole now are put behind
-/// what `out` has, and the line that is begun then is kept.
+/// what `out` has, and what is counted then is the line that is begun.
 pub fn absorb<D: Desk, L: Ledger>(
     alloc: Global,
     piece: &[u8],
     desk: &mut D,
     steps: &mut Steps<L>,
-    begun: &mut Vec<u8>,
+    cutter: &mut LineCutter,
     out: &mut Vec<u8>,
 ) -> Result<(), OutOfMemory>
-    requires { has_newline begun.old.items ≡ false }
-    ensures begun { OnOk result (begun.new.items ≡ unfinished (begun.old.items ++ piece.now)) }
+    requires { cutter.old.count + length piece.now ≤ 2 ^ 32 }
+    ensures begun { OnOk result ((begun : List ℕ) → HasBegun cutter.old begun → cutter.new ≡ counted (unfinished (begun ++ piece.now))) }
     ensures log { Grows (D.log desk.old) (D.log desk.new) }
-    ensures replies { OnOk result (Appends (Answers (lines (whole_lines (begun.old.items ++ piece.now))) (D.page desk.old) (D.page desk.new) (D.log desk.old) (D.log desk.new)) out.old.items out.new.items) }
+    ensures replies { OnOk result ((begun : List ℕ) → HasBegun cutter.old begun
+        → Appends (Answers (lines (whole_lines (begun ++ piece.now))) (D.page desk.old) (D.page desk.new) (D.log desk.old) (D.log desk.new)) out.old.items out.new.items) }
 {
-    for byte in piece {
-        take_byte(alloc, *byte, desk, steps, begun, out)?;
+    let mut at = 0;
+    while at < piece.len() {
+        at += take_part(alloc, &piece[at..], desk, steps, cutter, out)?;
     }
     Ok(())
 }
@@ -66,57 +79,61 @@ pub fn reply_to<K: Sink, D: Desk, L: Ledger>(
     sink: &mut K,
     desk: &mut D,
     steps: &mut Steps<L>,
-    begun: &mut Vec<u8>,
+    cutter: &mut LineCutter,
 ) -> Result<(), SinkFault>
-    requires { has_newline begun.old.items ≡ false }
-    ensures begun { OnOk result (begun.new.items ≡ unfinished (begun.old.items ++ piece.now)) }
+    requires { cutter.old.count + length piece.now ≤ 2 ^ 32 }
+    ensures begun { OnOk result ((begun : List ℕ) → HasBegun cutter.old begun → cutter.new ≡ counted (unfinished (begun ++ piece.now))) }
     ensures log { Grows (D.log desk.old) (D.log desk.new) }
-    ensures replied { OnOk result (Hands (Answers (lines (whole_lines (begun.old.items ++ piece.now))) (D.page desk.old) (D.page desk.new) (D.log desk.old) (D.log desk.new)) (K.taken sink.old) (K.taken sink.new)) }
-    ensures part { OnErr result ((page : Contents) → D.page desk.old ≡ Some page
-        → TakesFront (K.taken sink.old) (K.taken sink.new) (replies_from page (lines (whole_lines (begun.old.items ++ piece.now))))) }
+    ensures replied { OnOk result ((begun : List ℕ) → HasBegun cutter.old begun
+        → Hands (Answers (lines (whole_lines (begun ++ piece.now))) (D.page desk.old) (D.page desk.new) (D.log desk.old) (D.log desk.new)) (K.taken sink.old) (K.taken sink.new)) }
+    ensures part { OnErr result ((begun : List ℕ) → HasBegun cutter.old begun → (page : Contents) → D.page desk.old ≡ Some page
+        → TakesFront (K.taken sink.old) (K.taken sink.new) (replies_from page (lines (whole_lines (begun ++ piece.now))))) }
     ensures failed { result ≡ Err SinkFault.Failed → Rose (K.faults sink.old) (K.faults sink.new) }
     ensures never_falls { K.faults sink.old ≤ K.faults sink.new }
 {
     let mut replies = Vec::new(alloc);
-    absorb(alloc, piece, desk, steps, begun, &mut replies)?;
+    absorb(alloc, piece, desk, steps, cutter, &mut replies)?;
     write_all(sink, &replies)
 }
 
 // Answers a last line, which has no newline and counts where it isn't empty.
 fn answer_last<D: Desk, L: Ledger>(
     alloc: Global,
-    line: &[u8],
+    cutter: &mut LineCutter,
     desk: &mut D,
     steps: &mut Steps<L>,
     out: &mut Vec<u8>,
 ) -> Result<(), OutOfMemory>
-    requires { has_newline line.now ≡ false }
+    requires { cutter.old.count < 2 ^ 32 }
     ensures log { Grows (D.log desk.old) (D.log desk.new) }
-    ensures replies { OnOk result (Appends (Answers (lines line.now) (D.page desk.old) (D.page desk.new) (D.log desk.old) (D.log desk.new)) out.old.items out.new.items) }
+    ensures replies { OnOk result ((begun : List ℕ) → HasBegun cutter.old begun
+        → Appends (Answers (lines begun) (D.page desk.old) (D.page desk.new) (D.log desk.old) (D.log desk.new)) out.old.items out.new.items) }
 {
-    if line.is_empty() {
+    if cutter.length() == 0 {
         return Ok(());
     }
-    answer(alloc, line, desk, steps, out)
+    let cut = cutter.take(b'\n');
+    answer_cut(alloc, cut, cutter, desk, steps, out)
 }
 
 /// Hands the reply to a last line, which has no newline, to the sink. Where that fails the sink has taken a front of it.
 pub fn reply_to_last<K: Sink, D: Desk, L: Ledger>(
     alloc: Global,
-    line: &[u8],
+    cutter: &mut LineCutter,
     sink: &mut K,
     desk: &mut D,
     steps: &mut Steps<L>,
 ) -> Result<(), SinkFault>
-    requires { has_newline line.now ≡ false }
+    requires { cutter.old.count < 2 ^ 32 }
     ensures log { Grows (D.log desk.old) (D.log desk.new) }
-    ensures replied { OnOk result (Hands (Answers (lines line.now) (D.page desk.old) (D.page desk.new) (D.log desk.old) (D.log desk.new)) (K.taken sink.old) (K.taken sink.new)) }
-    ensures part { OnErr result ((page : Contents) → D.page desk.old ≡ Some page
-        → TakesFront (K.taken sink.old) (K.taken sink.new) (replies_from page (lines line.now))) }
+    ensures replied { OnOk result ((begun : List ℕ) → HasBegun cutter.old begun
+        → Hands (Answers (lines begun) (D.page desk.old) (D.page desk.new) (D.log desk.old) (D.log desk.new)) (K.taken sink.old) (K.taken sink.new)) }
+    ensures part { OnErr result ((begun : List ℕ) → HasBegun cutter.old begun → (page : Contents) → D.page desk.old ≡ Some page
+        → TakesFront (K.taken sink.old) (K.taken sink.new) (replies_from page (lines begun))) }
     ensures failed { result ≡ Err SinkFault.Failed → Rose (K.faults sink.old) (K.faults sink.new) }
     ensures never_falls { K.faults sink.old ≤ K.faults sink.new }
 {
     let mut reply = Vec::new(alloc);
-    answer_last(alloc, line, desk, steps, &mut reply)?;
+    answer_last(alloc, cutter, desk, steps, &mut reply)?;
     write_all(sink, &reply)
 }

@@ -1,11 +1,10 @@
-use Rattle.std.proofs.Common.{rules, ◌<◌, ◌+◌, ◌^◌, [], ◌++◌, length, take, Ok, Err, refl, ap, sym, ◌∙◌, arith}
+use Rattle.std.proofs.Common.{rules, ◌<◌, ◌+◌, ◌^◌, [], length, take, Ok, Err, refl, ap, sym, ◌∙◌, arith}
 use Rattle.hit_script.specs.Ending.{Moment}
 use Rattle.hit_script.specs.declared.outcome.Status.TheVariants as status
 use Rattle.hit_script.specs.declared.sinks.SinkFault.TheVariants as sink_fault
-use Rattle.hit_script.proofs.LineLaws.{no_newline, newline_not_unfinished}
 use Rattle.hit_script.proofs.Logs.{grows_both}
 use Rattle.hit_script.proofs.Pieces.{whole_buffer, front_length}
-use Rattle.hit_script.proofs.Progress.{stands_first, stands_more, rose_since}
+use Rattle.hit_script.proofs.Progress.{stands_first, reads_first, reads_more, count_within, rose_since}
 use Rattle.hit_script.proofs.Endings.{front_so_far, front_in_piece, front_in_last, short_so_far, short_with_piece, ends_by_sink, ends_by_source, ends_too_much, ends_done}
 use Rattle.hit_script.proofs.script.play.Goals as goal
 
@@ -17,10 +16,8 @@ returns-in_default g c =
 
 pub pieces-init : goal.pieces-init
 pieces-init g c =
-    let items = c.new-begun.ensures.items in
     record {
-      stands = rw items (stands_first _);
-      open_line = rw items no_newline;
+      reads = rw c.in-Ok-new.ensures (reads_first _);
       below = omega arith;
       room = c.in-Ok.ensures.len;
     }
@@ -38,7 +35,7 @@ pub returns-in_default-read_piece : goal.returns-in_default-read_piece
 returns-in_default-read_piece g c =
     let kept = c.pieces.invariant in
     let failed = c.in_default-read_piece.ensures in
-    rw failed.unchanged (ends_by_source kept.stands kept.below (g.S.Source.faults c.read_piece.new.source) (rose_since _ _ _ kept.stands.read_faults failed.failed))
+    rw failed.unchanged (ends_by_source kept.reads.stands kept.below (g.S.Source.faults c.read_piece.new.source) (rose_since _ _ _ kept.reads.stands.read_faults failed.failed))
 
 pub overflow_add-read : goal.overflow_add-read
 overflow_add-read g c =
@@ -53,14 +50,17 @@ returns-then-read-eq-MOST g c =
     let reads = c.in-Ok-read_piece.ensures in
     let size = c.read_piece.auto.piece ∙ c.deref_mut.ensures.len ∙ kept.room in
     let long = front_length c.read_piece.new.piece c.in-Ok-read_piece.count c.room_after.result _ reads.within c.room_after.ensures.piece size in
-    ends_too_much kept.stands (g.S.Source.left c.read_piece.new.source) (g.S.Source.faults c.read_piece.new.source) (take c.in-Ok-read_piece.count c.read_piece.new.piece) reads.read (rw long c.if-read-eq-MOST.true)
+    ends_too_much kept.reads.stands (g.S.Source.left c.read_piece.new.source) (g.S.Source.faults c.read_piece.new.source) (take c.in-Ok-read_piece.count c.read_piece.new.piece) reads.read (rw long c.if-read-eq-MOST.true)
 
 pub slice_bounds-reply_to-end : goal.slice_bounds-reply_to-end
 slice_bounds-reply_to-end g c =
     sym (front_length c.deref.result.now c.in-Ok-read_piece.count c.room_after.result _ c.in-Ok-read_piece.ensures.within c.room_after.ensures.piece (c.deref.ensures.len ∙ c.pieces.invariant.room))
 
 pub reply_to-requires : goal.reply_to-requires
-reply_to-requires g c = c.pieces.invariant.open_line
+reply_to-requires g c =
+    let kept = c.pieces.invariant in
+    let long = front_length c.deref.result.now c.in-Ok-read_piece.count c.room_after.result _ c.in-Ok-read_piece.ensures.within c.room_after.ensures.piece (c.deref.ensures.len ∙ kept.room) in
+    omega (arith, long, count_within kept.reads, c.in-Ok-read_piece.ensures.within, c.room_after.ensures.most)
 
 pub returns-in-Err : goal.returns-in-Err
 returns-in-Err g c =
@@ -73,12 +73,13 @@ returns-in-Err g c =
     let same = whole_buffer c.deref.result.now c.read_piece.new.piece _ _ c.deref.ensures.value filled in
     let long = front_length c.read_piece.new.piece count c.room_after.result _ reads.within c.room_after.ensures.piece (filled ∙ kept.room) in
     let part = rw (c.in-Err.is, same) at c.reply_to.ensures.part in
+    let line = kept.reads.begun in
     let below : c.pieces.read + length bytes < 2 ^ 32 = omega (arith, long, reads.within, c.room_after.ensures.most, c.if-read-eq-MOST.false) in
     ends_by_sink c.in-Err.fault c.status_of.result _ finish c.status_of.ensures
-    (λ e. rose_since _ _ _ kept.stands.write_faults (c.reply_to.ensures.failed (c.in-Err.is ∙ ap Err e)))
-    (front_in_piece kept.stands finish bytes reads.read part)
-    (short_with_piece kept.stands finish bytes reads.read below)
-    (grows_both kept.stands.log_grows c.reply_to.ensures.log)
+    (λ e. rose_since _ _ _ kept.reads.stands.write_faults (c.reply_to.ensures.failed (c.in-Err.is ∙ ap Err e)))
+    (front_in_piece kept.reads.stands finish bytes reads.read (part line kept.reads.has_begun))
+    (short_with_piece kept.reads.stands finish bytes reads.read below)
+    (grows_both kept.reads.stands.log_grows c.reply_to.ensures.log)
 
 pub pieces-smaller : goal.pieces-smaller
 pieces-smaller g c = omega (arith, c.in-Ok-read_piece.ensures.within, c.room_after.ensures.most, c.if-count-eq0.false, c.if-read-eq-MOST.false)
@@ -94,15 +95,15 @@ pieces-preserved g c =
     let long = front_length c.read_piece.new.piece count c.room_after.result _ reads.within c.room_after.ensures.piece (filled ∙ kept.room) in
     let begun = rw same at c.in_default-reply_to.ensures.begun in
     let replied = rw same at c.in_default-reply_to.ensures.replied in
+    let line = kept.reads.begun in
     record {
-      stands = rw long at (stands_more _ bytes _ kept.stands reads.read begun replied c.reply_to.ensures.log c.read_piece.ensures.never_falls c.reply_to.ensures.never_falls);
-      open_line = rw begun (newline_not_unfinished (c.pieces.begun.items ++ bytes));
+      reads = rw long at (reads_more _ bytes _ kept.reads reads.read (begun line kept.reads.has_begun) (replied line kept.reads.has_begun) c.reply_to.ensures.log c.read_piece.ensures.never_falls c.reply_to.ensures.never_falls);
       below = omega (arith, reads.within, c.room_after.ensures.most, c.if-read-eq-MOST.false);
       room = kept.room;
     }
 
 pub reply_to_last-requires : goal.reply_to_last-requires
-reply_to_last-requires g c = rw c.deref-2.ensures.value c.pieces.invariant.open_line
+reply_to_last-requires g c = omega (arith, count_within c.pieces.invariant.reads, c.pieces.invariant.below)
 
 pub returns-in-Ok-reply_to_last : goal.returns-in-Ok-reply_to_last
 returns-in-Ok-reply_to_last g c =
@@ -110,7 +111,7 @@ returns-in-Ok-reply_to_last g c =
     let none = c.if-count-eq0.true in
     let reads = rw none at c.in-Ok-read_piece.ensures.read in
     let ended = c.in-Ok-read_piece.ensures.end (ap Ok none) in
-    ends_done kept.stands kept.below _ reads ended (rw c.deref-2.ensures.value at c.in-Ok-reply_to_last.ensures.replied) c.reply_to_last.ensures.log
+    ends_done kept.reads.stands kept.below _ reads ended (c.in-Ok-reply_to_last.ensures.replied kept.reads.begun kept.reads.has_begun) c.reply_to_last.ensures.log
 
 pub returns : goal.returns
 returns g c =
@@ -119,10 +120,27 @@ returns g c =
     let none = c.if-count-eq0.true in
     let reads = rw none at c.in-Ok-read_piece.ensures.read in
     let ended = c.in-Ok-read_piece.ensures.end (ap Ok none) in
-    let part = rw (c.in-Err-reply_to_last.is, c.deref-2.ensures.value) at c.reply_to_last.ensures.part in
+    let part = rw c.in-Err-reply_to_last.is at c.reply_to_last.ensures.part in
     let below : c.pieces.read + 0 < 2 ^ 32 = omega (arith, kept.below) in
     ends_by_sink c.in-Err-reply_to_last.fault c.status_of-in-Err-reply_to_last.result _ finish c.status_of-in-Err-reply_to_last.ensures
-    (λ e. rose_since _ _ _ kept.stands.write_faults (c.reply_to_last.ensures.failed (c.in-Err-reply_to_last.is ∙ ap Err e)))
-    (front_in_last kept.stands finish reads ended part)
-    (short_with_piece kept.stands finish [] reads below)
-    (grows_both kept.stands.log_grows c.reply_to_last.ensures.log)
+    (λ e. rose_since _ _ _ kept.reads.stands.write_faults (c.reply_to_last.ensures.failed (c.in-Err-reply_to_last.is ∙ ap Err e)))
+    (front_in_last kept.reads.stands finish reads ended (part kept.reads.begun kept.reads.has_begun))
+    (short_with_piece kept.reads.stands finish [] reads below)
+    (grows_both kept.reads.stands.log_grows c.reply_to_last.ensures.log)
+
+-- What a cutter is inside stays the same where it is lent.
+
+pub same-cutter : goal.same-cutter
+same-cutter g c = refl
+
+pub same-cutter-in_default-reply_to : goal.same-cutter-in_default-reply_to
+same-cutter-in_default-reply_to g c = refl
+
+pub same-cutter-2 : goal.same-cutter-2
+same-cutter-2 g c = refl
+
+pub returns-in_default-new : goal.returns-in_default-new
+returns-in_default-new g c =
+    let start : Moment = record { left = g.S.Source.left c.args.source.now; taken = g.K.Sink.taken c.args.sink.now; page = g.D.Desk.page c.args.desk.now; log = g.D.Desk.log c.args.desk.now; read_faults = g.S.Source.faults c.args.source.now; write_faults = g.K.Sink.faults c.args.sink.now } in
+    let stands = stands_first start in
+    ends_by_sink sink_fault.OutOfMemory status.Memory start start refl (λ e. absurd (cc)) (front_so_far stands) (short_so_far stands (omega arith)) stands.log_grows

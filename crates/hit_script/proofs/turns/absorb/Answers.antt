@@ -1,33 +1,41 @@
-use Rattle.std.proofs.Common.{◌≡◌, [], ◌∷◌, ◌++◌, ◌+◌, List, get_or, take, sym, ap, ◌∙◌}
-use Rattle.std.proofs.lemmas.List.{append-nil, append_assoc, take_more}
-use Rattle.hit_script.specs.Lines.{lines, whole_lines}
+use Rattle.std.proofs.Common.{◌-◌, ◌++◌, ℕ, length, length-take, length-drop, take, drop, sym, ap, ◌∙◌, arith}
+use Rattle.std.proofs.lemmas.List.{append-nil}
+use Rattle.hit_script.specs.Cutting.{counted}
+use Rattle.hit_script.specs.Lines.{HasBegun, lines, whole_lines, unfinished}
 use Rattle.hit_script.proofs.Answering.{appends_nothing, appends_both}
-use Rattle.hit_script.proofs.ByteLaws.{begun_open, unfinished_byte, lines_with_byte, ended_by}
-use Rattle.hit_script.proofs.LineLaws.{unfinished_none, whole_lines_none, no_lines}
+use Rattle.hit_script.proofs.CutLaws.{next_part}
+use Rattle.hit_script.proofs.LineLaws.{unfinished_none, unfinished_more, newline_not_unfinished, whole_lines_none, no_lines}
+use Rattle.hit_script.proofs.Logs.{grows_same, grows_both}
+use Rattle.hit_script.proofs.Runs.{lines_more}
 use Rattle.hit_script.proofs.turns.absorb.Goals as goal
 
-pub loop-byte-init : goal.loop-byte-init
-loop-byte-init g c =
-    let none : lines (whole_lines c.args.begun.now.items) ≡ [] = rw (whole_lines_none c.args.begun.now.items c.requires) no_lines in
-    record {
-      open_line = c.requires;
-      begun = rw (append-nil c.args.begun.now.items) (sym (unfinished_none c.args.begun.now.items c.requires));
-      answered = rw (append-nil c.args.begun.now.items, none) (appends_nothing _ _ c.args.out.now.items);
-    }
+pub loop-at-init : goal.loop-at-init
+loop-at-init g c = record {
+  within = omega arith;
+  fits = omega (arith, c.requires);
+  begun = λ begun has. rw (append-nil begun, unfinished_none begun has.open_line) has.counts;
+  log = grows_same _;
+  answered = λ begun has. rw (append-nil begun, whole_lines_none begun has.open_line, no_lines) (appends_nothing _ _ c.args.out.now.items);
+}
 
-pub loop-byte-preserved : goal.loop-byte-preserved
-loop-byte-preserved g c =
+pub loop-at-preserved : goal.loop-at-preserved
+loop-at-preserved g c =
     let piece = c.args.piece.now in
-    let first = c.args.begun.now.items in
-    let i = c.loop-byte.byte-index in
-    let begun = c.loop-byte.begun.items in
-    let byte = get_or piece i 0 in
-    let so_far = first ++ take i piece in
-    let kept = c.loop-byte.invariant in
-    let taken = c.in_ok-take_byte.ensures in
-    let next : first ++ take (i + 1) piece ≡ so_far ++ byte ∷ [] = ap (λ (bytes : List _). first ++ bytes) (take_more piece i 0 c.loop-byte-test.true) ∙ sym (append_assoc first (take i piece) (byte ∷ [])) in
+    let at = c.loop-at.at in
+    let kept = c.loop-at.invariant in
+    let taken = c.in_ok-at.ensures in
+    let n = c.in_ok-at.field-0 in
+    let part = take n (take (length piece - at) (drop at piece)) in
     record {
-      open_line = rw taken.begun (begun_open begun byte kept.open_line);
-      begun = rw (next, taken.begun) (unfinished_byte so_far begun byte kept.begun kept.open_line);
-      answered = rw (next, ← lines_with_byte so_far begun byte kept.begun kept.open_line) (appends_both (lines (whole_lines so_far)) (ended_by begun byte) c.args.out.now.items kept.answered taken.replies);
+      within = omega (arith, taken.within, length-take {A = ℕ}, length-drop {A = ℕ});
+      fits = omega (arith, kept.fits, taken.fits, taken.within, length-take {A = ℕ}, length-drop {A = ℕ});
+      begun = λ begun has.
+          let so_far = begun ++ take at piece in
+          let next : HasBegun c.loop-at.cutter (unfinished so_far) = record { counts = kept.begun begun has; open_line = newline_not_unfinished so_far } in
+          taken.begun (unfinished so_far) next ∙ ap counted (sym (unfinished_more so_far part) ∙ ap unfinished (sym (next_part begun piece at n)));
+      log = grows_both kept.log c.take_part.ensures.log;
+      answered = λ begun has.
+          let so_far = begun ++ take at piece in
+          let next : HasBegun c.loop-at.cutter (unfinished so_far) = record { counts = kept.begun begun has; open_line = newline_not_unfinished so_far } in
+          rw (next_part begun piece at n, lines_more so_far part) (appends_both (lines (whole_lines so_far)) (lines (whole_lines (unfinished so_far ++ part))) c.args.out.now.items (kept.answered begun has) (taken.replies (unfinished so_far) next));
     }

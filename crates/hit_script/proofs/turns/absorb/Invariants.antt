@@ -1,14 +1,19 @@
-use Rattle.std.proofs.Common.{◌≡◌, ◌++◌, take, false}
+use Rattle.std.proofs.Common.{◌≡◌, ◌≤◌, ◌+◌, ◌-◌, ◌^◌, ◌++◌, ℕ, List, length, take}
 use Rattle.hit_script.specs.Answered.{Answers, Appends}
-use Rattle.hit_script.specs.Lines.{lines, has_newline, whole_lines, unfinished}
+use Rattle.hit_script.specs.Cutting.{counted}
+use Rattle.hit_script.specs.Lines.{HasBegun, lines, whole_lines, unfinished}
+use Rattle.hit_script.specs.Log.{Grows}
 use Rattle.hit_script.proofs.turns.absorb.Given as goal
 
--- the lines that are whole so far are answered, and the line that is begun is kept
-abbrev pub invariant-loop-byte : goal.invariant-loop-byte
-invariant-loop-byte g l =
-    let so_far = l.fn.begun.items ++ take l.byte-index l.piece in
-    record {
-      open_line : has_newline l.begun.items ≡ false;
-      begun : l.begun.items ≡ unfinished so_far;
-      answered : Appends (Answers (lines (whole_lines so_far)) (g.D.Desk.page l.fn.desk) (g.D.Desk.page l.desk) (g.D.Desk.log l.fn.desk) (g.D.Desk.log l.desk)) l.fn.out.items l.out.items;
-    }
+-- the lines that are whole so far are answered, and the line that is begun is counted
+abbrev pub invariant-loop-at : goal.invariant-loop-at
+invariant-loop-at g l = record {
+  within : l.at ≤ length l.piece;
+  fits : l.cutter.count + (length l.piece - l.at) ≤ 2 ^ 32;
+  begun : (begun : List ℕ) → HasBegun l.fn.cutter begun → l.cutter ≡ counted (unfinished (begun ++ take l.at l.piece));
+  log : Grows (g.D.Desk.log l.fn.desk) (g.D.Desk.log l.desk);
+  answered : (begun : List ℕ) → HasBegun l.fn.cutter begun → Appends (Answers (lines (whole_lines (begun ++ take l.at l.piece))) (g.D.Desk.page l.fn.desk) (g.D.Desk.page l.desk) (g.D.Desk.log l.fn.desk) (g.D.Desk.log l.desk)) l.fn.out.items l.out.items;
+}
+
+abbrev pub decreases-loop-at : goal.decreases-loop-at
+decreases-loop-at g l = length l.piece - l.at

@@ -1,17 +1,14 @@
-use Rattle.std.proofs.Common.{◌≡◌, [], ◌∷◌, false, sym, ◌∙◌, eqb, length}
-use Rattle.hit_script.specs.Lines.{lines}
-use Rattle.hit_script.proofs.Answering.{appends_nothing}
-use Rattle.hit_script.proofs.LineLaws.{lines_last}
-use Rattle.hit_script.proofs.Runs.{lines_of_nothing, some_length}
+use Rattle.std.proofs.Common.{sym, ◌∙◌}
+use Rattle.hit_script.proofs.Answering.{answered_last, appends_nothing}
+use Rattle.hit_script.proofs.CutLaws.{no_bytes}
+use Rattle.hit_script.proofs.LineLaws.{no_lines}
 use Rattle.hit_script.proofs.turns.answer_last.Goals as goal
 
-pub returns-then-is_empty-clause-replies : goal.returns-then-is_empty-clause-replies
-returns-then-is_empty-clause-replies g c =
-    rw (lines_of_nothing c.args.line.now (sym c.is_empty.ensures ∙ c.if-is_empty.true)) (appends_nothing _ _ c.args.out.now.items)
+pub returns-then-length-eq0-clause-replies : goal.returns-then-length-eq0-clause-replies
+returns-then-length-eq0-clause-replies g c = λ begun has.
+    rw (no_bytes c.args.cutter.now begun has (sym c.length.ensures ∙ c.if-length-eq0.true), no_lines) (appends_nothing _ _ c.args.out.now.items)
 
+-- A newline changes nothing.
 pub returns-clause-replies : goal.returns-clause-replies
 returns-clause-replies g c =
-    let line = c.args.line.now in
-    let some : eqb (length line) 0 ≡ false = sym c.is_empty.ensures ∙ c.if-is_empty.false in
-    let last : lines line ≡ line ∷ [] = lines_last line c.requires (some_length line some) in
-    rw last c.answer.ensures.reply
+    answered_last c.answer_cut.result c.args.cutter.now _ _ _ _ _ _ (λ none. c.if-length-eq0.false (c.length.ensures ∙ none)) (rw c.take-cut.ensures.counted at c.answer_cut.ensures.reply)
