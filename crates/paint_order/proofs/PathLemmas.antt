@@ -12,8 +12,9 @@ use Rattle.paint_order.specs.declared.entry.Entry.{Entry}
 use Rattle.paint_order.specs.declared.entry.Entry.TheVariants.{Item, Sub}
 use Rattle.paint_order.specs.Lists.{Lists, list_under, entries_of, StandsAt, Stands}
 use Rattle.paint_order.specs.Order.{items_of, flattened, is_member, is_earlier, NestsWithin, NestWithin, IsWhole}
-use Rattle.paint_order.specs.Paths.{LeadsTo}
+use Rattle.paint_order.specs.Paths.{LeadsTo, LeadsOn}
 use Rattle.paint_order.specs.Places.{PlaceTables, place, ArePlaced}
+use Rattle.paint_order.specs.declared.place.Place.{Place}
 use Rattle.paint_order.proofs.FlatLemmas.{or_first, or_second, member-piece, earlier-in_piece, earlier-by_piece, piece_of, pieces_of}
 
 -- the order of ways: where they first differ the lesser number comes first, and else the shorter way
@@ -309,6 +310,15 @@ module _ (lists : Lists) where
   pub first_way : (l k i : ℕ) → StandsAt lists (Item i) l k → LeadsTo lists l (k ∷ []) i
   unfolding LeadsTo
   first_way l k i at = inl (refl, at)
+
+  -- a climb that goes on although its path is full would be longer than lists nest
+  pub arrived : (n root : ℕ) (on : Option Place) (ks : List ℕ) (i : ℕ) → NestWithin n lists
+      → (IsSome on → length ks ≡ n) → LeadsOn lists root on ks i → (on ≡ None) × LeadsTo lists root ks i
+  arrived n root None ks i shallow full way = (refl, way)
+  arrived n root (Some next) ks i shallow full way =
+      let long = full refl in
+      let short = length_way n next.list (next.at ∷ ks) i (shallow next.list) way in
+      absurd (omega arith)
 
   -- ---- two items of one list
 

@@ -1,19 +1,25 @@
-ghost use Rattle.std.specs.Prelude.{◌≡◌, ◌≢◌, ◌+◌, ◌<◌, ◌≤◌, ℕ, [], ◌∷◌, ◌++◌, length, Some, None, IsSome, IfOk, IfErr, replicate, slice_set, vec_len, ◌-◌};
+ghost use Rattle.std.specs.Prelude.{◌≡◌, ◌≢◌, ◌+◌, ◌<◌, ◌≤◌, ℕ, [], ◌∷◌, ◌++◌, length, Some, None, IsSome, IfOk, IfErr, replicate, slice_set, vec_len, ◌-◌, is_some, if◌then◌else◌};
 ghost use Rattle.std.specs.List.{All};
 ghost use Rattle.paint_order.specs.declared.entry.Entry.TheVariants.{Item};
-ghost use Rattle.paint_order.specs.Lists.{list_under, Stands, StandsAt, IsInRoom, AreDistinct, StandNowhereElse};
+ghost use Rattle.paint_order.specs.Lists.{list_under, Stands, IsInRoom, AreDistinct, StandNowhereElse};
 ghost use Rattle.paint_order.specs.Order.{flattened, is_earlier, IsWhole, NestWithin};
-ghost use Rattle.paint_order.specs.Paths.{LeadsTo};
+ghost use Rattle.paint_order.specs.Paths.{LeadsTo, LeadsOn};
 ghost use Rattle.paint_order.specs.State.{list_room};
 
 use crate::entry::Entry;
 use crate::memory::OutOfMemory;
-use crate::path::{MOST_LEVELS, Path};
+use crate::path::Path;
 use crate::place::Place;
 use crate::places::Places;
 use fractions::{Ledger, Steps};
 use std::alloc::{AllocError, Global};
 use std::marker::Model;
+
+/// How deep lists may nest.
+const MOST_LEVELS: usize = 256;
+
+/// How many lists most ways go through at most: such a way needs no room of 256 numbers.
+const SHORT: usize = 16;
 
 /// The entries of a list from bottom to top; contracts see the list.
 #[derive(Drop)]
@@ -140,32 +146,98 @@ impl Forest {
         if first.list == second.list {
             return first.at < second.at;
         }
-        let first_path = self.path_to(first, steps);
-        let second_path = self.path_to(second, steps);
+        let mut first_way = Path::<SHORT>::new();
+        let first_on = self.climb(first, &mut first_way, steps);
+        let mut second_way = Path::<SHORT>::new();
+        let second_on = self.climb(second, &mut second_way, steps);
+        if let (None, None) = (first_on, second_on) {
+            return first_way.numbers() < second_way.numbers();
+        }
+        self.is_before_on_long_ways(&first_way, first_on, &second_way, second_on, steps)
+    }
+
+    /// The same, where a climb with short paths came to the root list on one of the two ways at most. It is apart so
+    /// that room for long ways is made ready here alone.
+    #[cold]
+    #[inline(never)]
+    fn is_before_on_long_ways<L: Ledger>(
+        &self,
+        first_way: &Path<SHORT>,
+        first_on: Option<Place>,
+        second_way: &Path<SHORT>,
+        second_on: Option<Place>,
+        steps: &mut Steps<L>,
+    ) -> bool
+        requires whole { IsWhole self.now.lists self.now.root }
+        requires shallow { NestWithin 256 self.now.lists }
+        requires first { (i : ℕ) × LeadsOn self.now.lists self.now.root first_on first_way.now i }
+        requires second { (j : ℕ) × LeadsOn self.now.lists self.now.root second_on second_way.now j }
+        ensures earlier { (i j : ℕ) → LeadsOn self.now.lists self.now.root first_on first_way.now i
+            → LeadsOn self.now.lists self.now.root second_on second_way.now j
+            → result ≡ is_earlier i j (flattened 256 self.now.lists self.now.root) }
+        ensures cost { steps.new + (length first_way.now + length second_way.now)
+            + ((if is_some first_on then 1 else 0) + (if is_some second_on then 1 else 0)) ≤ steps.old + 512 }
+        ensures counts { steps.old ≤ steps.new }
+    {
+        let _root = self.root;
+        let first_path = self.whole_path(first_way, first_on, steps);
+        let second_path = self.whole_path(second_way, second_on, steps);
         first_path.numbers() < second_path.numbers()
     }
 
-    /// The way down from the root list to a place where an item stands; a step for each list above that of the place.
-    fn path_to<L: Ledger>(&self, place: Place, steps: &mut Steps<L>) -> Path
+    /// Goes up from a place below which the path leads on, and puts the numbers of the entries at the front of the
+    /// path, until it comes to the root list or the path is full. It answers the next place, or None at the root
+    /// list; a step for each list whose place is read.
+    fn climb<L: Ledger, const MOST: usize>(
+        &self,
+        from: Place,
+        path: &mut Path<MOST>,
+        steps: &mut Steps<L>,
+    ) -> Option<Place>
         requires whole { IsWhole self.now.lists self.now.root }
         requires shallow { NestWithin 256 self.now.lists }
-        requires item { (i : ℕ) × StandsAt self.now.lists (Item i) place.list place.at }
-        ensures leads { (i : ℕ) → StandsAt self.now.lists (Item i) place.list place.at
-            → LeadsTo self.now.lists self.now.root result i }
-        ensures cost { steps.new + 1 ≡ steps.old + length result }
-        ensures length { length result ≤ 256 }
+        requires item { (i : ℕ) × LeadsTo self.now.lists from.list (from.at ∷ path.old) i }
+        ensures leads { (i : ℕ) → LeadsTo self.now.lists from.list (from.at ∷ path.old) i
+            → LeadsOn self.now.lists self.now.root result path.new i }
+        ensures full { IsSome result → length path.new ≡ MOST }
+        ensures cost { steps.new + length path.old + (if is_some result then 0 else 1) ≡ steps.old + length path.new }
+        ensures counts { steps.old ≤ steps.new }
     {
-        let mut path = Path::new();
-        let mut above = place;
-        for _ in 0..MOST_LEVELS {
+        let mut above = from;
+        for _ in 0..path.room() {
             path.push_front(above.at);
             if above.list == self.root {
-                break;
+                return None;
             }
             steps.tick();
             above = self.places.of(Entry::Sub { list: above.list });
         }
-        path
+        Some(above)
+    }
+
+    /// The whole way down from the root list, where a climb with a short path came to the place `on`.
+    fn whole_path<L: Ledger>(
+        &self,
+        way: &Path<SHORT>,
+        on: Option<Place>,
+        steps: &mut Steps<L>,
+    ) -> Path<MOST_LEVELS>
+        requires whole { IsWhole self.now.lists self.now.root }
+        requires shallow { NestWithin 256 self.now.lists }
+        requires item { (i : ℕ) × LeadsOn self.now.lists self.now.root on way.now i }
+        ensures leads { (i : ℕ) → LeadsOn self.now.lists self.now.root on way.now i
+            → LeadsTo self.now.lists self.now.root result i }
+        ensures cost { steps.new + length way.now + (if is_some on then 1 else 0) ≡ steps.old + length result }
+        ensures counts { steps.old ≤ steps.new }
+    {
+        let mut path = way.with_room::<MOST_LEVELS>();
+        match on {
+            None => path,
+            Some(place) => {
+                self.climb(place, &mut path, steps);
+                path
+            }
+        }
     }
 }
 

@@ -2,15 +2,11 @@ use Rattle.std.proofs.Common.{sym, ap, ◌∙◌, subst, arith}
 use Rattle.paint_order.specs.declared.entry.Entry.TheVariants.{Sub}
 use Rattle.paint_order.specs.Places.{ArePlaced}
 use Rattle.paint_order.proofs.TableLemmas.{room-from_standing, stands-at_place}
-use Rattle.paint_order.proofs.PathLemmas.{length_way, there-from_way, first_way, way_up}
-use Rattle.paint_order.proofs.forest.Forest.path_to.Goals as goal
+use Rattle.paint_order.proofs.PathLemmas.{there-from_way, way_up}
+use Rattle.paint_order.proofs.forest.Forest.climb.Goals as goal
 
 pub loop-init : goal.loop-init
-loop-init g c = record {
-  leads = λ i at. rw (c.new-path.ensures) (first_way c.args.self.now.lists c.args.place.list c.args.place.at i at);
-  length = rw (c.new-path.ensures) (λ i. 0);
-  cost = omega arith;
-}
+loop-init g c = record { leads = λ i way. way; count = omega arith; cost = omega arith; counts = omega arith }
 
 pub of-above-requires : goal.of-above-requires
 of-above-requires g c =
@@ -32,18 +28,7 @@ loop-preserved g c =
       leads = λ i here. rw (c.push_front.ensures)
           (way_up c.args.self.now.lists c.loop.above.list c.of-above.result.list c.of-above.result.at _ i
           (c.loop.invariant.leads i here) at);
-      length = rw (c.push_front.ensures) (omega arith);
-      cost = omega arith;
+      count = rw (c.push_front.ensures) (omega arith);
+      cost = rw (c.push_front.ensures) (omega arith);
+      counts = omega arith;
     }
-
-pub returns-after-loop-clause-leads : goal.returns-after-loop-clause-leads
-returns-after-loop-clause-leads g c =
-    let way = c.loop.invariant.leads c.requires.item.0 c.requires.item.1 in
-    let short = length_way c.args.self.now.lists 256 _ _ _ (c.requires.shallow c.loop.above.list) way in
-    absurd (omega arith)
-
-pub returns-after-loop-clause-cost : goal.returns-after-loop-clause-cost
-returns-after-loop-clause-cost g c =
-    let way = c.loop.invariant.leads c.requires.item.0 c.requires.item.1 in
-    let short = length_way c.args.self.now.lists 256 _ _ _ (c.requires.shallow c.loop.above.list) way in
-    absurd (omega arith)
