@@ -1,7 +1,7 @@
-use Rattle.std.proofs.Common.{rules, refl, ◌≡◌, ◌≢◌, ◌∙◌, ap, sym, pos, ◌*ℤ◌, of_z, FitsSigned, arith}
+use Rattle.std.proofs.Common.{rules, refl, ◌≡◌, ◌≢◌, ◌∙◌, ap, sym, pos, ◌*ℤ◌, of_z, FitsSigned, arith, lit≤}
+use Rattle.std.proofs.Math.Nat.{le_trans}
 use Rattle.std.specs.Int.{w64, w128}
 use Rattle.std.proofs.lemmas.Int.{ints, to_z-of_z}
-use Rattle.fractions.proofs.Widths.{from_bits}
 use Rattle.affine.proofs.Bits.{narrow}
 use Rattle.affine.proofs.PointLemmas.{IsSamePoint-preimage}
 use Rattle.affine.proofs.FloorLemmas.{rounded_down-some}
@@ -28,15 +28,15 @@ returns-clause-value c =
     let w = rw parts at c.determinant_of-w.ensures.value in
     let left = rw (parts, x, y) at c.preimage_x.ensures.value in
     let top = rw (parts, x, y) at c.preimage_y.ensures.value in
-    let read_w = from_bits c.determinant_of-w.result (narrow c.determinant_of-w.result (omega arith)) in
-    let read_left = from_bits c.preimage_x.result (narrow c.preimage_x.result (omega arith)) in
-    let read_top = from_bits c.preimage_y.result (narrow c.preimage_y.result (omega arith)) in
+    let read_w = narrow c.determinant_of-w.result (le_trans c.determinant_of-w.ensures.size (lit≤ tt)) in
+    let read_left = narrow c.preimage_x.result (le_trans c.preimage_x.ensures.size (lit≤ tt)) in
+    let read_top = narrow c.preimage_y.result (le_trans c.preimage_y.ensures.size (lit≤ tt)) in
     let floor_left = rw (read_left, left, read_w, w) at c.floor_in_fine_units.ensures.value in
     let floor_top = rw (read_top, top, read_w, w) at c.floor_in_fine_units-2.ensures.value in
     let fits_left : FitsSigned w128 c.floor_in_fine_units.result = search rules in
     let fits_top : FitsSigned w128 c.floor_in_fine_units-2.result = search rules in
     let some : determinant c.args.m.now ≢ pos 0 = λ zero. c.if-w-eq0.false (ap (of_z w128) (w ∙ zero)) in
-    rw (from_bits c.floor_in_fine_units.result fits_left, floor_left, from_bits c.floor_in_fine_units-2.result fits_top, floor_top)
+    rw (to_z-of_z w128 c.floor_in_fine_units.result fits_left, floor_left, to_z-of_z w128 c.floor_in_fine_units-2.result fits_top, floor_top)
     (sym (rounded_down-some (pos 64 *ℤ at.x) (pos 64 *ℤ at.y) (determinant c.args.m.now) some))
 
 pub returns-clause-exact : goal.returns-clause-exact
