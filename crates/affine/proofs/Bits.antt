@@ -7,6 +7,7 @@ use Rattle.std.specs.Int.{w64, w128}
 use Rattle.std.proofs.lemmas.Int.{ints, to_z-of_z}
 use Rattle.affine.specs.declared.map.Parts.{Parts}
 use Rattle.whole_numbers.proofs.Widths.{width-add, width-sub}
+use Rattle.fractions.specs.Division.{IsFloor}
 use Rattle.affine.specs.Gcd.{gcd}
 use Rattle.affine.specs.Map.{IsWithin, IsWithinBound}
 
@@ -34,6 +35,12 @@ factor_size z h = le_trans (narrow-size z (2 ^ 70) h (lit≤ tt)) (lit≤ tt)
 
 pub answer_size : (z : ℤ) → unsigned_abs z ≤ 2 ^ 120 → unsigned_abs (read z) ≤ 2 ^ 120
 answer_size z h = narrow-size z (2 ^ 120) h (lit≤ tt)
+
+pub image_size : (z : ℤ) → unsigned_abs z ≤ 2 ^ 117 → unsigned_abs (read z) ≤ 2 ^ 117
+image_size z h = narrow-size z (2 ^ 117) h (lit≤ tt)
+
+pub positive-read : (z : ℤ) → unsigned_abs z ≤ 2 ^ 44 → pos 0 <ℤ z → pos 0 <ℤ read z
+positive-read z h some = rw (narrow z (le_trans h (lit≤ tt))) some
 
 -- the seven parts of a map
 pub record AreRead (m : Parts) : Type 0 where
@@ -96,6 +103,9 @@ pub difference-read : (s t : ℤ) → unsigned_abs s ≤ 2 ^ 117 → unsigned_ab
 difference-read s t p q = omega (arith, ints)
 
 -- the code's z + 1, where z is v
+pub next-fits : (z : ℤ) → unsigned_abs z ≤ 2 ^ 126 → FitsSigned w128 (read z +ℤ pos 1)
+next-fits z small = omega (arith, ints)
+
 pub next-read : (z v : ℤ) → unsigned_abs z ≤ 2 ^ 126 → z ≡ v → read (read z +ℤ pos 1) ≡ v +ℤ pos 1
 next-read z v small e = omega (arith, ints)
 
@@ -156,6 +166,13 @@ times_64-fits n small = omega (arith, ints)
 
 pub times_64-read : (n : ℤ) → unsigned_abs n ≤ 2 ^ 116 → read (pos 64 *ℤ read n) ≡ pos 64 *ℤ n
 times_64-read n small = omega (arith, ints)
+
+-- what a call answers that was passed n and w, and answers the floor of 64 n / w
+pub floor-read :
+    (n w r n' w' : ℤ) → FitsSigned w128 r → unsigned_abs n ≤ 2 ^ 120 → n ≡ n' → unsigned_abs w ≤ 2 ^ 120 → w ≡ w' →
+    IsFloor (pos 64 *ℤ read n) (read w) r → IsFloor (pos 64 *ℤ n') w' (read r)
+floor-read n w r n' w' fits small same small' same' floor =
+    rw (to_z-of_z w128 r fits) (rw (narrow n small, same, narrow w small', same') at floor)
 
 -- parts with the same numbers are the same
 pub same_parts : {a a' b b' c c' d d' e e' f f' q q' : ℤ}

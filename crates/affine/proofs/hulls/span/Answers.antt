@@ -4,7 +4,7 @@ use Rattle.std.specs.Prelude.{unsigned_abs}
 use Rattle.std.specs.Int.{w64, w128}
 use Rattle.std.proofs.lemmas.Int.{to_z-of_z}
 use Rattle.affine.specs.Hull.{corner_image}
-use Rattle.affine.proofs.Bits.{narrow, next-read, read}
+use Rattle.affine.proofs.Bits.{image_size, narrow, narrow-size, next-fits, next-read, part_size, positive-read, read}
 use Rattle.affine.proofs.hulls.span.Goals as goal
 
 -- what a call answers that was passed a row and a corner, and answers the corner's image
@@ -37,6 +37,63 @@ corners c =
       left_bottom = at r.l r.b c.corner-left_bottom.result l b c.corner-left_bottom.ensures.size c.corner-left_bottom.ensures.value;
       right_bottom = at r.r r.b c.corner-right_bottom.result right b c.corner-right_bottom.ensures.size c.corner-right_bottom.ensures.value;
     }
+
+pub corner-left_top-requires : goal.corner-left_top-requires
+corner-left_top-requires c = record {
+  a_size = part_size c.args.a c.requires.a_size;
+  c_size = part_size c.args.c c.requires.c_size;
+  e_size = narrow-size c.args.e (2 ^ 70) c.requires.e_size (lit≤ tt);
+}
+
+pub corner-right_top-requires : goal.corner-right_top-requires
+corner-right_top-requires c = record {
+  a_size = part_size c.args.a c.requires.a_size;
+  c_size = part_size c.args.c c.requires.c_size;
+  e_size = narrow-size c.args.e (2 ^ 70) c.requires.e_size (lit≤ tt);
+}
+
+pub corner-left_bottom-requires : goal.corner-left_bottom-requires
+corner-left_bottom-requires c = record {
+  a_size = part_size c.args.a c.requires.a_size;
+  c_size = part_size c.args.c c.requires.c_size;
+  e_size = narrow-size c.args.e (2 ^ 70) c.requires.e_size (lit≤ tt);
+}
+
+pub corner-right_bottom-requires : goal.corner-right_bottom-requires
+corner-right_bottom-requires c = record {
+  a_size = part_size c.args.a c.requires.a_size;
+  c_size = part_size c.args.c c.requires.c_size;
+  e_size = narrow-size c.args.e (2 ^ 70) c.requires.e_size (lit≤ tt);
+}
+
+pub least-requires : goal.least-requires
+least-requires c = record {
+  sizes = (image_size c.corner-left_top.result c.corner-left_top.ensures.size, image_size c.corner-right_top.result c.corner-right_top.ensures.size);
+  more_sizes = (image_size c.corner-left_bottom.result c.corner-left_bottom.ensures.size, image_size c.corner-right_bottom.result c.corner-right_bottom.ensures.size);
+}
+
+pub floor-requires : goal.floor-requires
+floor-requires c = record {
+  positive = positive-read c.args.q c.requires.q_size c.requires.positive;
+  n_size = image_size c.least.result c.least.ensures.size;
+  d_size = part_size c.args.q c.requires.q_size;
+}
+
+pub greatest-requires : goal.greatest-requires
+greatest-requires c = record {
+  sizes = (image_size c.corner-left_top.result c.corner-left_top.ensures.size, image_size c.corner-right_top.result c.corner-right_top.ensures.size);
+  more_sizes = (image_size c.corner-left_bottom.result c.corner-left_bottom.ensures.size, image_size c.corner-right_bottom.result c.corner-right_bottom.ensures.size);
+}
+
+pub floor-requires-2 : goal.floor-requires-2
+floor-requires-2 c = record {
+  positive = positive-read c.args.q c.requires.q_size c.requires.positive;
+  n_size = image_size c.greatest.result c.greatest.ensures.size;
+  d_size = part_size c.args.q c.requires.q_size;
+}
+
+pub overflow_add-result : goal.overflow_add-result
+overflow_add-result c = next-fits c.floor-2.result c.floor-2.ensures.size
 
 pub returns-clause-from : goal.returns-clause-from
 returns-clause-from c =
