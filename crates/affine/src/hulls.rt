@@ -125,6 +125,3 @@ fn some_rect(l: i128, t: i128, r: i128, b: i128) -> Rect
         }
     }
 }
-
-#[cfg(test)]
-mod tests;

@@ -43,12 +43,11 @@ fn are_tiled(here: usize, there: usize, subs: &[Sub]) -> bool
     }
 }
 
-fn point(place: (i16, i16)) -> Point
-    ensures { IsPlaced result }
-{
+fn point(place: (i16, i16)) -> Point {
+    let (x, y) = place;
     Point {
-        x: i64::from(place.0),
-        y: i64::from(place.1),
+        x: i64::from(x),
+        y: i64::from(y),
     }
 }
 
@@ -106,28 +105,24 @@ fn assert_strokes(rt: &impl Abort, poly: &Poly, width: u16, cap: Cap, cases: &[C
     }
 }
 
-// The stroke of the open subpath between two points, and that of the line between them, with butt, round and square caps.
+// The stroke of the open subpath between two points, and that of the line between them, with a cap.
 fn assert_line(
     rt: &impl Abort,
     alloc: Global,
     ends: [(i16, i16); 2],
     width: u16,
-    by_cap: [&[Case]; 3],
+    cap: Cap,
+    cases: &[Case],
 ) -> Result<(), Fail> {
     let poly = subpath(rt, alloc, &ends, false)?;
-    let [from, to] = [point(ends[0]), point(ends[1])];
-    let [butt, round, square] = by_cap;
-    for (cap, cases) in [
-        (Cap::Butt, butt),
-        (Cap::Round, round),
-        (Cap::Square, square),
-    ] {
-        assert_strokes(rt, &poly, width, cap, cases);
-        for &(x, y, held) in cases {
-            let (x, y) = (i128::from(x), i128::from(y));
-            let stroked = line_stroke_holds(from, to, i64::from(width), cap, x, y);
-            assert_eq!(rt; stroked, held, "{x} {y}");
-        }
+    assert_strokes(rt, &poly, width, cap, cases);
+    let (from, to) = (point(ends[0]), point(ends[1]));
+    assert!(rt; is_placed(from));
+    assert!(rt; is_placed(to));
+    for &(x, y, held) in cases {
+        let (x, y) = (i128::from(x), i128::from(y));
+        let stroked = line_stroke_holds(from, to, i64::from(width), cap, x, y);
+        assert_eq!(rt; stroked, held, "{x} {y}");
     }
     Ok(())
 }
@@ -262,14 +257,14 @@ fn nested_subpaths_and_none(rt: HostRuntime) -> Result<(), Fail> {
 #[test]
 fn caps_of_lines(rt: HostRuntime) -> Result<(), Fail> {
     let level = [(1280, 3200), (3840, 3200)];
-    let butt: [Case; 5] = [
+    let butt = [
         (4480, 3200, false),
         (4480, 3840, false),
         (3840, 3840, true),
         (3840, 3841, false),
         (640, 3200, false),
     ];
-    let round: [Case; 6] = [
+    let round = [
         (4480, 3200, true),
         (4480, 3840, false),
         (3840, 3840, true),
@@ -277,7 +272,7 @@ fn caps_of_lines(rt: HostRuntime) -> Result<(), Fail> {
         (640, 3200, true),
         (639, 3200, false),
     ];
-    let square: [Case; 7] = [
+    let square = [
         (4480, 3200, true),
         (4480, 3840, true),
         (3840, 3840, true),
@@ -286,10 +281,12 @@ fn caps_of_lines(rt: HostRuntime) -> Result<(), Fail> {
         (640, 2560, true),
         (639, 3200, false),
     ];
-    assert_line(&rt, rt.alloc(), level, 1280, [&butt, &round, &square])?;
+    assert_line(&rt, rt.alloc(), level, 1280, Cap::Butt, &butt)?;
+    assert_line(&rt, rt.alloc(), level, 1280, Cap::Round, &round)?;
+    assert_line(&rt, rt.alloc(), level, 1280, Cap::Square, &square)?;
 
     let slanted = [(0, 0), (30, 40)];
-    let butt: [Case; 6] = [
+    let butt = [
         (11, 23, true),
         (10, 23, false),
         (26, 43, true),
@@ -297,7 +294,7 @@ fn caps_of_lines(rt: HostRuntime) -> Result<(), Fail> {
         (33, 44, false),
         (-3, -4, false),
     ];
-    let round: [Case; 8] = [
+    let round = [
         (11, 23, true),
         (10, 23, false),
         (26, 43, true),
@@ -307,7 +304,7 @@ fn caps_of_lines(rt: HostRuntime) -> Result<(), Fail> {
         (-3, -4, true),
         (-7, -1, false),
     ];
-    let square: [Case; 10] = [
+    let square = [
         (11, 23, true),
         (10, 23, false),
         (26, 43, true),
@@ -319,12 +316,13 @@ fn caps_of_lines(rt: HostRuntime) -> Result<(), Fail> {
         (-4, -5, false),
         (-7, -1, true),
     ];
-    assert_line(&rt, rt.alloc(), slanted, 10, [&butt, &round, &square])?;
-    assert_line(&rt, rt.alloc(), slanted, 9, [&[(11, 23, false)], &[], &[]])?;
+    assert_line(&rt, rt.alloc(), slanted, 10, Cap::Butt, &butt)?;
+    assert_line(&rt, rt.alloc(), slanted, 10, Cap::Round, &round)?;
+    assert_line(&rt, rt.alloc(), slanted, 10, Cap::Square, &square)?;
+    assert_line(&rt, rt.alloc(), slanted, 9, Cap::Butt, &[(11, 23, false)])?;
 
     // without a width there is no stroke
-    let middle = [(15, 20, false)];
-    assert_line(&rt, rt.alloc(), slanted, 0, [&middle, &middle, &middle])?;
+    assert_line(&rt, rt.alloc(), slanted, 0, Cap::Round, &[(15, 20, false)])?;
 
     let dot = [(5, 5), (5, 5)];
     let round = [(10, 5, true), (11, 5, false), (8, 9, true), (9, 9, false)];
@@ -334,13 +332,10 @@ fn caps_of_lines(rt: HostRuntime) -> Result<(), Fail> {
         (0, 0, true),
         (0, -1, false),
     ];
-    assert_line(
-        &rt,
-        rt.alloc(),
-        dot,
-        10,
-        [&[(5, 5, false)], &round, &square],
-    )
+    assert_line(&rt, rt.alloc(), dot, 10, Cap::Butt, &[(5, 5, false)])?;
+    assert_line(&rt, rt.alloc(), dot, 10, Cap::Round, &round)?;
+    assert_line(&rt, rt.alloc(), dot, 10, Cap::Square, &square)?;
+    Ok(())
 }
 
 #[test]
@@ -400,7 +395,8 @@ const FAR: i128 = 5_000_000_000_000_000_000_000_000_000_000_000_000;
 #[test]
 fn points_far_off_and_bounds(rt: HostRuntime) -> Result<(), Fail> {
     let square = subpath(&rt, rt.alloc(), &SQUARE, true)?;
-    let [from, to] = [point(SQUARE[0]), point(SQUARE[2])];
+    let from = Point { x: 0, y: 0 };
+    let to = Point { x: 10, y: 10 };
     for (x, y) in [(FAR, 5), (5, -FAR), (-FAR, FAR)] {
         assert!(rt; !square.is_point_in_fill(FillRule::NonZero, x, y));
         assert!(rt; !square.is_point_in_fill(FillRule::EvenOdd, x, y));
