@@ -125,3 +125,6 @@ fn some_rect(l: i128, t: i128, r: i128, b: i128) -> Rect
         }
     }
 }
+
+#[cfg(test)]
+mod tests;

@@ -89,3 +89,6 @@ fn floor_in_fine_units(n: i128, d: i128) -> i128
 {
     floor_div(64 * n, d)
 }
+
+#[cfg(test)]
+mod tests;
