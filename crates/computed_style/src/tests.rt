@@ -1,201 +1,190 @@
 use super::*;
-use std::alloc::Global;
 use std::process::Abort;
 use std::test::Fail;
 
 // What is admitted where the pointer is over neither, over the interior, over the perimeter, over both.
-type Row = [bool; 4];
+const NEVER: [bool; 4] = [false, false, false, false];
 
-const NEVER: Row = [false, false, false, false];
+const OVER_FILL: [bool; 4] = [false, true, false, true];
 
-const OVER_FILL: Row = [false, true, false, true];
+const OVER_STROKE: [bool; 4] = [false, false, true, true];
 
-const OVER_STROKE: Row = [false, false, true, true];
+const EITHER: [bool; 4] = [false, true, true, true];
 
-const EITHER: Row = [false, true, true, true];
+fn assert_admits(rt: &impl Abort, values: &Inherited, admitted: [bool; 4]) {
+    assert_eq!(rt; admits_shape(values, false, false), admitted[0]);
+    assert_eq!(rt; admits_shape(values, true, false), admitted[1]);
+    assert_eq!(rt; admits_shape(values, false, true), admitted[2]);
+    assert_eq!(rt; admits_shape(values, true, true), admitted[3]);
+}
 
-// Whether a box is admitted, and the rows for fill and stroke none, fill painted, stroke painted, both painted.
-fn assert_admits(
-    rt: &impl Abort,
-    pointer: PointerEvents,
-    visible: bool,
-    boxed: bool,
-    rows: [Row; 4],
-) {
-    let paints = [(false, false), (true, false), (false, true), (true, true)];
-    for ((fill, stroke), row) in paints.iter().zip(&rows) {
-        let values = Inherited {
-            visible,
-            pointer,
-            fill: *fill,
-            stroke: *stroke,
-            ..Inherited::initial()
-        };
-        let admitted = [
-            admits_shape(&values, false, false),
-            admits_shape(&values, true, false),
-            admits_shape(&values, false, true),
-            admits_shape(&values, true, true),
-        ];
-        assert_eq!(rt; admitted, *row, "{values:?}");
-        assert_eq!(rt; admits_box(&values), boxed, "{values:?}");
-    }
+// The rows are for fill and stroke none, fill painted, stroke painted, both painted.
+fn assert_rows(rt: &impl Abort, pointer: PointerEvents, visible: bool, rows: [[bool; 4]; 4]) {
+    let neither = Inherited {
+        visible,
+        pointer,
+        fill: false,
+        stroke: false,
+        ..Inherited::initial()
+    };
+    let fill = Inherited {
+        fill: true,
+        ..neither
+    };
+    let stroke = Inherited {
+        stroke: true,
+        ..neither
+    };
+    let both = Inherited {
+        stroke: true,
+        ..fill
+    };
+    assert_admits(rt, &neither, rows[0]);
+    assert_admits(rt, &fill, rows[1]);
+    assert_admits(rt, &stroke, rows[2]);
+    assert_admits(rt, &both, rows[3]);
 }
 
 #[test]
-fn elements_by_the_tables_of_pointer_events(rt: HostRuntime) {
+fn shapes_by_the_table_of_pointer_events(rt: HostRuntime) {
     let nothing = [NEVER; 4];
     let painted = [NEVER, OVER_FILL, OVER_STROKE, EITHER];
     let table = [
-        // the value, then whether a box is admitted and the rows where it is visible, and the rows where it isn't
-        (PointerEvents::Auto, true, painted, nothing),
-        (PointerEvents::None, false, nothing, nothing),
-        (PointerEvents::VisiblePainted, true, painted, nothing),
-        (PointerEvents::VisibleFill, true, [OVER_FILL; 4], nothing),
-        (PointerEvents::VisibleStroke, true, [OVER_STROKE; 4], nothing),
-        (PointerEvents::Visible, true, [EITHER; 4], nothing),
-        (PointerEvents::Painted, true, painted, painted),
-        (PointerEvents::Fill, true, [OVER_FILL; 4], [OVER_FILL; 4]),
-        (PointerEvents::Stroke, true, [OVER_STROKE; 4], [OVER_STROKE; 4]),
-        (PointerEvents::All, true, [EITHER; 4], [EITHER; 4]),
+        // the value, then the rows where it is visible, and where it isn't
+        (PointerEvents::Auto, painted, nothing),
+        (PointerEvents::None, nothing, nothing),
+        (PointerEvents::VisiblePainted, painted, nothing),
+        (PointerEvents::VisibleFill, [OVER_FILL; 4], nothing),
+        (PointerEvents::VisibleStroke, [OVER_STROKE; 4], nothing),
+        (PointerEvents::Visible, [EITHER; 4], nothing),
+        (PointerEvents::Painted, painted, painted),
+        (PointerEvents::Fill, [OVER_FILL; 4], [OVER_FILL; 4]),
+        (PointerEvents::Stroke, [OVER_STROKE; 4], [OVER_STROKE; 4]),
+        (PointerEvents::All, [EITHER; 4], [EITHER; 4]),
     ];
-    for (pointer, boxed, shown, hidden) in table {
-        assert_admits(&rt, pointer, true, boxed, shown);
-        assert_admits(&rt, pointer, false, false, hidden);
+    for (pointer, shown, hidden) in table {
+        assert_rows(&rt, pointer, true, shown);
+        assert_rows(&rt, pointer, false, hidden);
     }
 }
 
-// Each field of a style, in its order.
-fn assert_style(rt: &impl Abort, style: &Style, want: &Style) {
-    assert_eq!(rt;
-        (style.position, style.floats, style.z, style.opacity),
-        (want.position, want.floats, want.z, want.opacity)
-    );
-    assert_eq!(rt; style.transform.0.as_slice(), want.transform.0.as_slice());
-    assert_eq!(rt;
-        (style.origin, style.overflow, style.border, style.radii),
-        (want.origin, want.overflow, want.border, want.radii)
-    );
-    assert_eq!(rt;
-        (style.display_block, style.visible, style.pointer, style.fill),
-        (want.display_block, want.visible, want.pointer, want.fill)
-    );
-    assert_eq!(rt;
-        (style.stroke, style.stroke_width, style.rule, style.ends),
-        (want.stroke, want.stroke_width, want.rule, want.ends)
-    );
-}
-
-// A style in which each key is declared, and none as it is where nothing is.
-fn declared(alloc: Global) -> Result<Style, Fail> {
-    let functions = [
-        Function::Translate { x: 1, y: -2 },
-        Function::Quarter { turns: 3 },
-        Function::Scale { x: 3, y: 4, q: 5 },
-        Function::Matrix {
-            a: 6,
-            b: 7,
-            c: 8,
-            d: 9,
-            e: 10,
-            f: 11,
-            q: 12,
-        },
+#[test]
+fn boxes_by_visibility_and_pointer_events(rt: HostRuntime) {
+    let table = [
+        (PointerEvents::Auto, true),
+        (PointerEvents::None, false),
+        (PointerEvents::VisiblePainted, true),
+        (PointerEvents::VisibleFill, true),
+        (PointerEvents::VisibleStroke, true),
+        (PointerEvents::Visible, true),
+        (PointerEvents::Painted, true),
+        (PointerEvents::Fill, true),
+        (PointerEvents::Stroke, true),
+        (PointerEvents::All, true),
     ];
-    Ok(Style {
-        position: Position::Fixed,
-        floats: true,
-        z: Some(-4),
-        opacity: 999,
-        transform: Functions(Vec::from_array(alloc, functions)?),
-        origin: Some((13, -14)),
-        overflow: Some(Overflow::Auto),
-        border: [1, 2, 3, 4],
-        radii: [5, 6, 7, 8, 9, 10, 11, 12],
-        display_block: true,
-        visible: Some(false),
-        pointer: Some(PointerEvents::Fill),
-        fill: Some(false),
-        stroke: Some(true),
-        stroke_width: Some(7),
-        rule: Some(Rule::EvenOdd),
-        ends: Some(Ends::Round),
-    })
+    for (pointer, admitted) in table {
+        let shown = Inherited {
+            pointer,
+            ..Inherited::initial()
+        };
+        let hidden = Inherited {
+            visible: false,
+            ..shown
+        };
+        assert_eq!(rt; admits_box(&shown), admitted);
+        assert!(rt; !admits_box(&hidden));
+    }
 }
 
 #[test]
-fn empty_and_copied_styles(rt: HostRuntime) -> Result<(), Fail> {
-    let empty = Style {
-        position: Position::Static,
-        floats: false,
-        z: None,
-        opacity: 1000,
-        transform: Functions(Vec::new(rt.alloc())),
-        origin: None,
-        overflow: None,
-        border: [0; 4],
-        radii: [0; 8],
-        display_block: false,
-        visible: None,
-        pointer: None,
-        fill: None,
-        stroke: None,
-        stroke_width: None,
-        rule: None,
-        ends: None,
-    };
-    assert_style(&rt, &Style::new(rt.alloc()), &empty);
-    let style = declared(rt.alloc())?;
-    let copied = style.copy()?;
-    assert_style(&rt, &copied, &declared(rt.alloc())?);
-    assert_eq!(rt; style.transform.copy()?.0.as_slice(), copied.transform.0.as_slice());
-    let refused = format!(in rt.alloc(); "{OutOfMemory}")?;
-    assert_eq!(rt; refused.as_str(), "out of memory");
-    Ok(())
+fn defaults_of_each_key(rt: HostRuntime) {
+    let style = Style::new(rt.alloc());
+    assert_eq!(rt; style.position, Position::Static);
+    assert!(rt; !style.floats);
+    assert_eq!(rt; style.z, None);
+    assert_eq!(rt; style.opacity, 1000);
+    assert!(rt; style.transform.0.is_empty());
+    assert_eq!(rt; style.origin, None);
+    assert_eq!(rt; style.overflow, None);
+    assert_eq!(rt; style.border, [0, 0, 0, 0]);
+    assert_eq!(rt; style.radii, [0, 0, 0, 0, 0, 0, 0, 0]);
+    assert!(rt; !style.display_block);
+
+    let initial = compute(&Inherited::initial(), &style);
+    assert!(rt; initial.visible);
+    assert_eq!(rt; initial.pointer, PointerEvents::Auto);
+    assert!(rt; initial.fill);
+    assert!(rt; !initial.stroke);
+    assert_eq!(rt; initial.stroke_width, 4096);
+    assert_eq!(rt; initial.rule, Rule::NonZero);
+    assert_eq!(rt; initial.ends, Ends::Butt);
 }
 
 #[test]
-fn declared_values_replace_inherited_ones(rt: HostRuntime) -> Result<(), Fail> {
-    let first = Inherited {
-        visible: true,
-        pointer: PointerEvents::Auto,
-        fill: true,
-        stroke: false,
-        stroke_width: 4096,
-        rule: Rule::NonZero,
-        ends: Ends::Butt,
-    };
-    let second = Inherited {
+fn declared_values_replace_inherited_ones(rt: HostRuntime) {
+    let above = Inherited {
         visible: false,
-        pointer: PointerEvents::Fill,
+        pointer: PointerEvents::All,
         fill: false,
         stroke: true,
         stroke_width: 7,
         rule: Rule::EvenOdd,
         ends: Ends::Round,
     };
-    let empty = Style::new(rt.alloc());
-    let whole = declared(rt.alloc())?;
-    assert_eq!(rt; Inherited::initial(), first);
-    for above in [first, second] {
-        assert_eq!(rt; compute(&above, &empty), above);
-        assert_eq!(rt; compute(&above, &whole), second);
-    }
+    let mut own = Style::new(rt.alloc());
+    assert_eq!(rt; compute(&above, &own), above);
 
-    // a style that declares every other value
-    let mut some = Style::new(rt.alloc());
-    some.pointer = Some(PointerEvents::None);
-    some.stroke = Some(false);
-    some.rule = Some(Rule::NonZero);
-    let mixed = Inherited {
-        visible: false,
-        pointer: PointerEvents::None,
-        fill: false,
-        stroke: false,
+    own.visible = Some(true);
+    own.fill = Some(true);
+    own.rule = Some(Rule::NonZero);
+    let first = Inherited {
+        visible: true,
+        pointer: PointerEvents::All,
+        fill: true,
+        stroke: true,
         stroke_width: 7,
         rule: Rule::NonZero,
         ends: Ends::Round,
     };
-    assert_eq!(rt; compute(&second, &some), mixed);
+    assert_eq!(rt; compute(&above, &own), first);
+
+    own.pointer = Some(PointerEvents::None);
+    own.stroke = Some(false);
+    own.stroke_width = Some(0);
+    own.ends = Some(Ends::Square);
+    let second = Inherited {
+        visible: true,
+        pointer: PointerEvents::None,
+        fill: true,
+        stroke: false,
+        stroke_width: 0,
+        rule: Rule::NonZero,
+        ends: Ends::Square,
+    };
+    assert_eq!(rt; compute(&above, &own), second);
+}
+
+#[test]
+fn copies_with_ample_memory(rt: HostRuntime) -> Result<(), Fail> {
+    let functions = [
+        Function::Translate { x: 1, y: -2 },
+        Function::Quarter { turns: 3 },
+        Function::Scale { x: 3, y: 4, q: 5 },
+    ];
+    let mut style = Style::new(rt.alloc());
+    style.transform = Functions(Vec::from_array(rt.alloc(), functions)?);
+    style.z = Some(-4);
+    style.overflow = Some(Overflow::Auto);
+    style.border = [1, 2, 3, 4];
+    style.ends = Some(Ends::Round);
+
+    let copied = style.copy()?;
+    assert_eq!(rt; copied.transform.0.as_slice(), functions.as_slice());
+    assert_eq!(rt; copied.z, Some(-4));
+    assert_eq!(rt; copied.overflow, Some(Overflow::Auto));
+    assert_eq!(rt; copied.border, [1, 2, 3, 4]);
+    assert_eq!(rt; copied.ends, Some(Ends::Round));
+    assert_eq!(rt; copied.position, Position::Static);
+    assert_eq!(rt; copied.opacity, 1000);
     Ok(())
 }

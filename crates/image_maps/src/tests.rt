@@ -54,7 +54,14 @@ fn every_count_of_numbers(rt: HostRuntime) -> Result<(), OutOfMemory> {
             (AreaKind::Poly, 6, corners),
             (AreaKind::Default, 0, 0),
         ] {
-            assert_area(&rt, rt.alloc(), kind, given, corners, &[(208, 128, from <= count)])?;
+            assert_area(
+                &rt,
+                rt.alloc(),
+                kind,
+                given,
+                corners,
+                &[(208, 128, from <= count)],
+            )?;
         }
     }
     Ok(())
@@ -100,7 +107,14 @@ fn points_of_each_kind(rt: HostRuntime) -> Result<(), OutOfMemory> {
         (-FAR, 128, false),
         (320, FAR, false),
     ];
-    assert_area(&rt, alloc, AreaKind::Poly, &[0, 0, 10, 0, 10, 10, 99], 3, &triangle)?;
+    assert_area(
+        &rt,
+        alloc,
+        AreaKind::Poly,
+        &[0, 0, 10, 0, 10, 10, 99],
+        3,
+        &triangle,
+    )?;
     // a square that is gone round twice, so that the crossings are even inside
     let twice = [0, 0, 10, 0, 10, 10, 0, 10, 0, 0, 10, 0, 10, 10, 0, 10];
     assert_area(&rt, alloc, AreaKind::Poly, &twice, 8, &[(320, 320, false)])?;
