@@ -7,6 +7,7 @@ use Rattle.std.proofs.lemmas.Cmp.{ranked}
 use Rattle.std.proofs.lemmas.List.Sorted.{searched as searched_numbers}
 use Rattle.std.proofs.lemmas.Bool.{cases_lt, cases_eq}
 use Rattle.std.proofs.lemmas.Bool.Decides.{nat_tests}
+use Rattle.computed_style.specs.Defaults.{empty_style}
 use Rattle.box_tree.specs.declared.kind.Kind.TheVariants.{Block}
 use Rattle.box_tree.specs.declared.node.Node.{Node}
 use Rattle.std.specs.List.{insert, filter}
@@ -47,7 +48,7 @@ pub record Finds (nodes : List Node) (id : ℕ) (r : Result ℕ ℕ) : Type 0 wh
 
 -- a node that stands for one past the end of a list
 abbrev no_node : Node
-no_node = record { id = 0; kind = Block; parent = 0; children = []; depth = 0; anchor = origin; boxes = []; scroll = origin; max = origin }
+no_node = record { id = 0; kind = Block; parent = 0; children = []; depth = 0; style = empty_style; anchor = origin; boxes = []; scroll = origin; max = origin }
 
 module _ (nodes : List Node) (rising : IsRisingFrom 0 nodes) (id : ℕ) where
   -- the comparisons with the id rise along the nodes, as a search asks

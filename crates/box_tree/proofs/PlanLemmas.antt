@@ -1,11 +1,11 @@
 -- A planned edit, carried out on the kept nodes, makes the edited page of them.
 use Rattle.std.proofs.Common.{◌≡◌, ◌≢◌, ◌⊎◌, ℕ, ◌+◌, ◌==◌, List, [], ◌∷◌, ◌++◌, length, set, slice_get, Option, Some, None, IsSome, is_some, true, if◌then◌else◌, refl, sym, ap, ◌∙◌, subst, inl, inr, arith}
-use Rattle.std.specs.Prelude.{is_none, nat_le}
 use mathlib.Core.Bool.{false≢true}
 use Rattle.std.specs.Option.{option_or, option_map, option_map_or}
 use Rattle.std.specs.List.{insert}
 use Rattle.std.proofs.lemmas.Bool.{cases_eq}
 use Rattle.std.proofs.lemmas.Bool.Decides.{nat_tests}
+use Rattle.computed_style.specs.declared.style.Style.{Style}
 use Rattle.box_tree.specs.declared.kind.Kind.{Kind}
 use Rattle.box_tree.specs.declared.piece.Piece.{Piece}
 use Rattle.box_tree.specs.declared.node.Node.{Node}
@@ -14,7 +14,7 @@ use Rattle.box_tree.specs.declared.edit.Edit.{Edit}
 use Rattle.box_tree.specs.declared.edit.Edit.TheVariants.{Add}
 use Rattle.box_tree.specs.declared.plan.Plan.TheVariants.{AddNode}
 use Rattle.box_tree.specs.Forest.{Label, Forest, End, Grow, roots_of, Placed, placed_in}
-use Rattle.box_tree.specs.Contents.{Contents, node_at, node_of, placed_of, origin, new_label, has_id, parent_id, boxes_suit, IsValid}
+use Rattle.box_tree.specs.Contents.{Contents, node_at, node_of, placed_of, origin, new_label, has_id, parent_id, IsValid}
 use Rattle.box_tree.specs.Edited.{edited, planted, put_below, ancestors_below, child_count}
 use Rattle.box_tree.specs.Kept.{node_with, page_of, IsKept}
 use Rattle.box_tree.specs.PageState.{PageState}
@@ -45,9 +45,9 @@ id-placed_in (Grow n below others) above id p is = elim (cases_eq n.id id) [
     from_parts (Some q) from_below from_others found = from_below found
 
 -- the parent that a new node names
-pub parent-node_added : (page : Contents) (parent : ℕ) (kind : Kind) (boxes : List Piece) → IsValid page → (parent ≡ 0) ⊎ (has_id page parent ≡ true) → (node_added page parent kind boxes).parent ≡ parent
-parent-node_added page parent kind boxes valid (inl none_named) = rw none_named (ap parent_id (ancestors_below-none page valid))
-parent-node_added page parent kind boxes valid (inr there) = at_place (placed_of page parent) refl there
+pub parent-node_added : (page : Contents) (parent : ℕ) (kind : Kind) (style : Style) (boxes : List Piece) → IsValid page → (parent ≡ 0) ⊎ (has_id page parent ≡ true) → (node_added page parent kind style boxes).parent ≡ parent
+parent-node_added page parent kind style boxes valid (inl none_named) = rw none_named (ap parent_id (ancestors_below-none page valid))
+parent-node_added page parent kind style boxes valid (inr there) = at_place (placed_of page parent) refl there
   where
     at_place : (place : Option Placed) → placed_of page parent ≡ place → is_some place ≡ true → parent_id (option_map_or (λ p. p.label ∷ p.above) place []) ≡ parent
     at_place None is there' = absurd (false≢true there')
@@ -61,28 +61,28 @@ planted-below parent at n tree other = grind (arith, nat_tests)
 
 -- a planned add of a root
 pub planned-root : (state : PageState) (nodes : List Node) (first : Option ℕ) (edit : Edit) (node : Node) (siblings : List ℕ) → IsKept nodes first state.contents → IsPlanned (AddNode node siblings) edit state → node.parent ≡ 0 → MeansEdited (nodes ++ node ∷ []) (Some node.id) state.contents.viewport (state.contents.next + 1) state.contents edit
-planned-root state nodes first (Add parent at kind boxes) node siblings kept planned is_root =
+planned-root state nodes first (Add parent at kind boxes style) node siblings kept planned is_root =
     let page = state.contents in
-    let may = may_add page parent at kind boxes planned.faultless in
-    let none_named : parent ≡ 0 = sym (parent-node_added page parent kind boxes kept.valid may.present) ∙ sym (ap (λ (n : Node). n.parent) planned.plan_is.node_is) ∙ is_root in
-    let tree_is = planted-root parent at (new_label page.next kind boxes) page.tree none_named in
-    rw planned.plan_is.node_is (means_edited _ _ page (Add parent at kind boxes)
-    (rw tree_is (kept-root page kept.valid parent at kind boxes planned.in_range may none_named first nodes kept)))
+    let may = may_add page parent at kind style boxes planned.faultless in
+    let none_named : parent ≡ 0 = sym (parent-node_added page parent kind style boxes kept.valid may.present) ∙ sym (ap (λ (n : Node). n.parent) planned.plan_is.node_is) ∙ is_root in
+    let tree_is = planted-root parent at (new_label page.next kind style boxes) page.tree none_named in
+    rw planned.plan_is.node_is (means_edited _ _ page (Add parent at kind boxes style)
+    (rw tree_is (kept-root page kept.valid parent at kind style boxes planned.in_range may none_named first nodes kept)))
 planned-root state nodes first edit node siblings kept planned is_root = absurd planned.plan_is
 
 -- a planned add of a child
 pub planned-child : (state : PageState) (nodes : List Node) (first : Option ℕ) (edit : Edit) (node : Node) (siblings : List ℕ) (i : ℕ) (n : Node) → IsKept nodes first state.contents → IsPlanned (AddNode node siblings) edit state → node.parent ≢ 0 → slice_get nodes i ≡ Some n → n.id ≡ node.parent → MeansEdited (set nodes i (record n { children = siblings }) ++ node ∷ []) first state.contents.viewport (state.contents.next + 1) state.contents edit
-planned-child state nodes first (Add parent at kind boxes) node siblings i n kept planned is_child is same =
+planned-child state nodes first (Add parent at kind boxes style) node siblings i n kept planned is_child is same =
     let page = state.contents in
-    let may = may_add page parent at kind boxes planned.faultless in
-    let parent_is : node.parent ≡ parent = ap (λ (m : Node). m.parent) planned.plan_is.node_is ∙ parent-node_added page parent kind boxes kept.valid may.present in
+    let may = may_add page parent at kind style boxes planned.faultless in
+    let parent_is : node.parent ≡ parent = ap (λ (m : Node). m.parent) planned.plan_is.node_is ∙ parent-node_added page parent kind style boxes kept.valid may.present in
     let named : parent ≢ 0 = λ none_named. is_child (parent_is ∙ none_named) in
     let there : has_id page parent ≡ true = elim may.present [ inl none_named ↦ absurd (named none_named) | inr there' ↦ there' ] in
     let found : node_of page parent ≡ Some n = sym (kept.looked_up parent) ∙ ap (node_with nodes) (sym (same ∙ parent_is)) ∙ node_with-slice nodes 0 i n kept.rising is in
     let siblings_are : siblings ≡ insert n.children at page.next = planned.plan_is.siblings_are ∙ ap (λ o. option_map_or (λ (m : Node). insert m.children at page.next) o []) found in
-    let tree_is = planted-below parent at (new_label page.next kind boxes) page.tree named in
-    rw (siblings_are, planned.plan_is.node_is) (means_edited _ _ page (Add parent at kind boxes)
-    (rw tree_is (kept-below page kept.valid parent at kind boxes planned.in_range may there first nodes i n kept is (same ∙ parent_is))))
+    let tree_is = planted-below parent at (new_label page.next kind style boxes) page.tree named in
+    rw (siblings_are, planned.plan_is.node_is) (means_edited _ _ page (Add parent at kind boxes style)
+    (rw tree_is (kept-below page kept.valid parent at kind style boxes planned.in_range may there first nodes i n kept is (same ∙ parent_is))))
 planned-child state nodes first edit node siblings i n kept planned is_child is same = absurd planned.plan_is
 
 -- a reader sees a node where one is placed
@@ -92,10 +92,10 @@ is_some-node_at (Some p) = refl
 
 -- the parent of a planned child is one of the nodes
 pub planned-parent : (state : PageState) (nodes : List Node) (first : Option ℕ) (edit : Edit) (node : Node) (siblings : List ℕ) → IsKept nodes first state.contents → IsPlanned (AddNode node siblings) edit state → node.parent ≢ 0 → IsSome (node_with nodes node.parent)
-planned-parent state nodes first (Add parent at kind boxes) node siblings kept planned is_child =
+planned-parent state nodes first (Add parent at kind boxes style) node siblings kept planned is_child =
     let page = state.contents in
-    let may = may_add page parent at kind boxes planned.faultless in
-    let parent_is : node.parent ≡ parent = ap (λ (m : Node). m.parent) planned.plan_is.node_is ∙ parent-node_added page parent kind boxes kept.valid may.present in
+    let may = may_add page parent at kind style boxes planned.faultless in
+    let parent_is : node.parent ≡ parent = ap (λ (m : Node). m.parent) planned.plan_is.node_is ∙ parent-node_added page parent kind style boxes kept.valid may.present in
     let there : has_id page parent ≡ true = elim may.present [ inl none_named ↦ absurd (is_child (parent_is ∙ none_named)) | inr there' ↦ there' ] in
     subst (λ (o : Option Node). is_some o ≡ true) (sym (kept.looked_up parent) ∙ ap (node_with nodes) (sym parent_is)) (is_some-node_at (placed_of page parent) ∙ there)
 planned-parent state nodes first edit node siblings kept planned is_child = absurd planned.plan_is
@@ -116,17 +116,10 @@ module _ (page : Contents) (parent : ℕ) where
       by_place None = refl
       by_place (Some p) = omega arith
 
-  pub boxes_suit-node_of : (boxes : List Piece) → boxes_suit (ancestors_below page parent) boxes ≡ (if is_none (node_of page parent) then length boxes == 1 else nat_le (length boxes) 1)
-  boxes_suit-node_of boxes = by_place (placed_of page parent)
-    where
-      by_place : (o : Option Placed) → boxes_suit (option_map_or (λ p. p.label ∷ p.above) o []) boxes ≡ (if is_none (option_map node_at o) then length boxes == 1 else nat_le (length boxes) 1)
-      by_place None = refl
-      by_place (Some p) = refl
-
 -- the node that an add makes, field by field
-pub node_is-added : (page : Contents) (parent : ℕ) (kind : Kind) (boxes : List Piece) (id depth : ℕ) (children : List ℕ) (own : List Piece) → IsValid page → (parent ≡ 0) ⊎ (has_id page parent ≡ true) → id ≡ page.next → children ≡ [] → depth ≡ option_map_or (λ (n : Node). n.depth) (node_of page parent) 0 → own ≡ boxes →
-    let made : Node = record { id = id; kind = kind; parent = parent; children = children; depth = depth + 1; anchor = origin; boxes = own; scroll = origin; max = origin } in made ≡ node_added page parent kind boxes
-node_is-added page parent kind boxes id depth children own valid present id_is children_are depth_is own_is =
-    let parent_is = parent-node_added page parent kind boxes valid present in
+pub node_is-added : (page : Contents) (parent : ℕ) (kind : Kind) (style : Style) (boxes : List Piece) (id depth : ℕ) (children : List ℕ) (own : List Piece) (declared : Style) → IsValid page → (parent ≡ 0) ⊎ (has_id page parent ≡ true) → id ≡ page.next → children ≡ [] → depth ≡ option_map_or (λ (n : Node). n.depth) (node_of page parent) 0 → own ≡ boxes → declared ≡ style →
+    let made : Node = record { id = id; kind = kind; parent = parent; children = children; depth = depth + 1; style = declared; anchor = origin; boxes = own; scroll = origin; max = origin } in made ≡ node_added page parent kind style boxes
+node_is-added page parent kind style boxes id depth children own declared valid present id_is children_are depth_is own_is declared_is =
+    let parent_is = parent-node_added page parent kind style boxes valid present in
     let depth_is' : depth + 1 ≡ 1 + length (ancestors_below page parent) = omega (arith, length-ancestors_below page parent, depth_is) in
-    rw (id_is, children_are, depth_is', own_is) (ap (λ (k : ℕ). let made : Node = record { id = page.next; kind = kind; parent = k; children = []; depth = 1 + length (ancestors_below page parent); anchor = origin; boxes = boxes; scroll = origin; max = origin } in made) (sym parent_is))
+    rw (id_is, children_are, depth_is', own_is, declared_is) (ap (λ (k : ℕ). let made : Node = record { id = page.next; kind = kind; parent = k; children = []; depth = 1 + length (ancestors_below page parent); style = style; anchor = origin; boxes = boxes; scroll = origin; max = origin } in made) (sym parent_is))

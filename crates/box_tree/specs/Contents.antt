@@ -3,10 +3,15 @@ use Rattle.std.specs.Prelude.{ℕ, ◌+◌, ◌<◌, ◌≤◌, ◌^◌, List, [
 use Rattle.std.specs.List.{filter}
 use Rattle.std.specs.Option.{option_map, option_map_or}
 use Rattle.fractions.specs.declared.rect.Spot.{Spot}
+use Rattle.computed_style.specs.declared.style.Style.{Style}
+pub use Rattle.computed_style.specs.Ranges.{IsWithin, IsSide}
+use Rattle.computed_style.specs.Ranges.{IsStyleInRange}
 use Rattle.box_tree.specs.declared.kind.Kind.{Kind}
 use Rattle.box_tree.specs.declared.piece.Piece.{Piece}
 use Rattle.box_tree.specs.declared.node.Node.{Node}
 use Rattle.box_tree.specs.declared.viewport.Viewport.{Viewport}
+use Rattle.box_tree.specs.Suits.{has_no_parent, kind_suits, box_count_suits, style_suits}
+use Rattle.box_tree.specs.Totals.{box_count}
 use Rattle.box_tree.specs.Forest.{Label, Forest, End, Grow, roots_of, tree_order, node_count, height_of, occurrences, Placed, placed_in, EachNode}
 
 -- what a page holds: a tree of nodes or none, the viewport and the next id
@@ -32,6 +37,7 @@ node_at p = record {
   parent = parent_id p.above;
   children = roots_of p.below;
   depth = depth_below p.above;
+  style = p.label.style;
   anchor = p.label.anchor;
   boxes = p.label.boxes;
   scroll = p.label.scroll;
@@ -84,8 +90,8 @@ abbrev pub origin : Spot
 origin = record { x = pos 0; y = pos 0 }
 
 -- what a new node is: it has no anchor, and nothing to scroll
-abbrev pub new_label : ℕ → Kind → List Piece → Label
-new_label id kind boxes = record { id = id; kind = kind; anchor = origin; boxes = boxes; scroll = origin; max = origin }
+abbrev pub new_label : ℕ → Kind → Style → List Piece → Label
+new_label id kind style boxes = record { id = id; kind = kind; style = style; anchor = origin; boxes = boxes; scroll = origin; max = origin }
 
 -- a page with no node, seen through an unscrolled viewport of these sides
 abbrev pub empty_page : ℤ → ℤ → Contents
@@ -94,14 +100,6 @@ empty_page w h = record {
   viewport = record { w = w; h = h; scroll = origin; max = origin };
   next = 1;
 }
-
--- from - 2 ^ bits to 2 ^ bits
-abbrev pub IsWithin : ℕ → ℤ → Type 0
-IsWithin bits x = (neg_ℤ (pos (2 ^ bits)) ≤ℤ x) × (x ≤ℤ pos (2 ^ bits))
-
--- from 0 to 2 ^ bits
-abbrev pub IsSide : ℕ → ℤ → Type 0
-IsSide bits x = (pos 0 ≤ℤ x) × (x ≤ℤ pos (2 ^ bits))
 
 -- a point within the limits
 pub record IsSpotInRange (spot : Spot) : Type 0 where
@@ -130,14 +128,13 @@ pub record IsBoxInRange (box : Piece) : Type 0 where
   pub across : IsSpanInRange box.l box.w
   pub down : IsSpanInRange box.t box.h
 
--- how many boxes suit a node with these ancestors: the root is a block with exactly one, every other block has at most one
-abbrev pub boxes_suit : List Label → List Piece → Bool
-boxes_suit [] boxes = length boxes == 1
-boxes_suit (parent ∷ above) boxes = nat_le (length boxes) 1
-
 -- a node suits its place, and its numbers are within the limits
 pub record IsSuited (above : List Label) (n : Label) : Type 0 where
-  pub boxes : IsTrue (boxes_suit above n.boxes)
+  pub kind : IsTrue (kind_suits above n.kind)
+  pub boxes : IsTrue (box_count_suits (has_no_parent above) n.kind (length n.boxes))
+  pub style : IsTrue (style_suits n.kind n.style)
+  pub style_in_range : IsStyleInRange n.style
+  pub box_count : length n.boxes ≤ 1024
   pub in_range : All IsBoxInRange n.boxes
   pub anchor : IsSpotInRange n.anchor
   pub scroll : IsScrolled n.scroll n.max
@@ -161,5 +158,6 @@ pub record IsValid (page : Contents) : Type 0 where
   pub suited : EachNode IsSuited [] page.tree
   pub depth : height_of page.tree ≤ 256
   pub nodes : node_count page.tree ≤ 65536
+  pub boxes : box_count page.tree ≤ 262144
   pub next : (0 < page.next) × (page.next ≤ 1048577)
   pub viewport : IsViewport page.viewport

@@ -2,6 +2,7 @@
 use Rattle.std.specs.Prelude.{ℕ, ◌+◌, max, List, [], ◌∷◌, ◌++◌, Option, Some, None, if◌then◌else◌, ◌==◌}
 use Rattle.std.specs.Option.{option_or}
 use Rattle.fractions.specs.declared.rect.Spot.{Spot}
+use Rattle.computed_style.specs.declared.style.Style.{Style}
 use Rattle.box_tree.specs.declared.kind.Kind.{Kind}
 use Rattle.box_tree.specs.declared.piece.Piece.{Piece}
 
@@ -9,6 +10,7 @@ use Rattle.box_tree.specs.declared.piece.Piece.{Piece}
 pub record Label : Type 0 where
   pub id : ℕ
   pub kind : Kind
+  pub style : Style
   pub anchor : Spot
   pub boxes : List Piece
   pub scroll : Spot

@@ -1,7 +1,13 @@
 pub mod Forest
 pub mod Contents
+pub mod Used
+pub mod Containing
 pub mod Edited
 pub mod Kept
 pub mod PageState
 pub mod ForestCode
 pub mod Planned
+pub mod Suits
+pub mod SuitsBelow
+pub mod Totals
+pub mod Counted

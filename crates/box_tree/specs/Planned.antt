@@ -4,6 +4,7 @@ use Rattle.std.specs.Option.{option_map, option_map_or}
 use Rattle.std.specs.List.{insert, filter, list_any}
 use Rattle.std.specs.List.Sorted.{IsNonDecreasing}
 use Rattle.fractions.specs.declared.rect.Spot.{Spot}
+use Rattle.computed_style.specs.declared.style.Style.{Style}
 use Rattle.box_tree.specs.declared.kind.Kind.{Kind}
 use Rattle.box_tree.specs.declared.piece.Piece.{Piece}
 use Rattle.box_tree.specs.declared.node.Node.{Node}
@@ -19,16 +20,16 @@ use Rattle.box_tree.specs.Edited.{IsInRange, first_fault, ancestors_below}
 use Rattle.box_tree.specs.PageState.{PageState}
 
 -- the node that an add makes
-abbrev pub node_added : Contents → ℕ → Kind → List Piece → Node
-node_added page parent kind boxes = node_at (record { label = new_label page.next kind boxes; above = ancestors_below page parent; below = End })
+abbrev pub node_added : Contents → ℕ → Kind → Style → List Piece → Node
+node_added page parent kind style boxes = node_at (record { label = new_label page.next kind style boxes; above = ancestors_below page parent; below = End })
 
 -- the children of `parent` with the new node as number `at` of them
 abbrev pub children_with : Contents → ℕ → ℕ → List ℕ
 children_with page parent at = option_map_or (λ n. insert n.children at page.next) (node_of page parent) []
 
 -- a node and the new children of its parent, as an add needs them
-pub record IsAddPlan (page : PageState) (parent at : ℕ) (kind : Kind) (boxes : List Piece) (node : Node) (siblings : List ℕ) : Type 0 where
-  pub node_is : node ≡ node_added page.contents parent kind boxes
+pub record IsAddPlan (page : PageState) (parent at : ℕ) (kind : Kind) (style : Style) (boxes : List Piece) (node : Node) (siblings : List ℕ) : Type 0 where
+  pub node_is : node ≡ node_added page.contents parent kind style boxes
   pub siblings_are : siblings ≡ children_with page.contents parent at
   pub room : node_count page.contents.tree < page.room
 
@@ -94,7 +95,7 @@ pub record IsResizePlan (w h : ℤ) (max : Spot) (w' h' : ℤ) (max' : Spot) : T
 
 -- the plan is one for the edit on the page
 abbrev pub IsPlanFor : Plan → Edit → PageState → Type 0
-IsPlanFor (AddNode node siblings) (Add parent at kind boxes) page = IsAddPlan page parent at kind boxes node siblings
+IsPlanFor (AddNode node siblings) (Add parent at kind boxes style) page = IsAddPlan page parent at kind style boxes node siblings
 IsPlanFor (RemoveNodes parent siblings gone) (Remove id) page = IsRemovePlan page.contents id parent siblings gone
 IsPlanFor (MoveNodes place siblings children ids) (Move id parent at) page = IsMovePlan page.contents id parent at place siblings children ids
 IsPlanFor (PlaceNode placement own) (Place id anchor boxes max) page = IsPlacePlan id anchor boxes max placement own

@@ -2,22 +2,33 @@
 //!
 //! It promises that an edit is tested by the table of faults before anything is changed, that a tested edit is
 //! carried out without taking memory, and that the page is then the edited one of `specs/Edited.antt`.
-//! It stands on `fractions` for its points and its counter of steps.
+//! It tells what holds a node and what its used values are, by `specs/Containing.antt` and `specs/Used.antt`.
+//! It stands on `fractions` for its points and its counter of steps, and on `computed_style` for declared styles.
 #![tactic(auto)]
 
+mod containing;
 mod edit;
+mod item;
 mod kind;
 mod node;
 mod page;
 mod piece;
 mod plan;
 mod scroll;
+mod suits;
+mod used;
 mod viewport;
 
+pub use containing::Holder;
 pub use edit::{Done, Edit, EditFault};
+pub use item::{Item, Part};
 pub use kind::Kind;
 pub use node::{Boxes, IdList, Node};
 pub use page::Page;
 pub use piece::{Piece, PieceList};
 pub use plan::{Prepared, Undo};
+pub use used::{
+    is_atomic, is_block_container, is_block_level, is_floating, is_in_flow, is_positioned,
+    is_real_context, is_taken_out, is_transformed, stack_level, used_position,
+};
 pub use viewport::Viewport;

@@ -5,6 +5,7 @@ ghost use Rattle.box_tree.specs.Planned.{ids_without, is_among};
 
 use crate::kind::Kind;
 use crate::piece::Piece;
+use computed_style::Style;
 use fractions::Spot;
 use smallvec::SmallVec;
 use std::alloc::{AllocError, Global};
@@ -85,6 +86,13 @@ impl Boxes {
         self.0.as_slice()
     }
 
+    // How many boxes there are.
+    pub(crate) fn count(&self) -> usize
+        ensures { result ≡ length self.now }
+    {
+        self.0.len()
+    }
+
     // A copy of the boxes.
     pub(crate) fn from_pieces(alloc: Global, pieces: &[Piece]) -> Result<Boxes, AllocError>
         ensures { IfOk result (λ boxes. boxes ≡ pieces.now) }
@@ -107,6 +115,8 @@ pub struct Node {
     pub children: IdList,
     /// The number of nodes from the root to this one, 1 for the root and at most 256.
     pub depth: u32,
+    /// What is declared on it.
+    pub style: Style,
     /// Where the layout puts it, added to its space: within 2^26 units.
     pub anchor: Spot,
     pub boxes: Boxes,

@@ -1,3 +1,4 @@
 pub mod Defaults
 pub mod Inheritance
 pub mod PointerEvents
+pub mod Ranges

@@ -10,6 +10,7 @@ mod inherited;
 pub mod laws;
 mod memory;
 mod pointer_events;
+mod ranges;
 mod style;
 
 pub use function::{Function, Functions};

@@ -1,5 +1,6 @@
 ghost use Rattle.std.specs.Prelude.{◌≡◌, IfOk};
-ghost use Rattle.computed_style.specs.Defaults.{empty_style};
+ghost use Rattle.std.specs.List.{list_all};
+ghost use Rattle.computed_style.specs.Defaults.{empty_style, is_zero, is_empty as is_empty_style, is_static as is_static_position, has_initial_flow as flow_is_initial, has_initial_box as box_is_initial, inherits_all as all_are_inherited};
 
 use crate::function::Functions;
 use crate::memory::OutOfMemory;
@@ -112,4 +113,58 @@ impl Style {
         let transform = self.transform.copy()?;
         Ok(Style { transform, ..*self })
     }
+
+    /// Whether it has the value of the empty style, in which nothing is declared: so a value that is declared as the
+    /// initial one of a property that isn't inherited counts as none.
+    pub fn is_empty(&self) -> bool
+        ensures { result ≡ is_empty_style self.now }
+    {
+        self.has_initial_flow() && (self.has_initial_box() && self.inherits_all())
+    }
+
+    // Whether it is in flow, opaque, and of no level of its own.
+    fn has_initial_flow(&self) -> bool
+        ensures { result ≡ flow_is_initial self.now }
+    {
+        is_static(self.position)
+            && (!self.floats && (self.z.is_none() && (self.opacity == 1000 && !self.display_block)))
+    }
+
+    // Whether its box has no transform, no overflow given, no borders and no radii.
+    fn has_initial_box(&self) -> bool
+        ensures { result ≡ box_is_initial self.now }
+    {
+        self.transform.0.is_empty()
+            && (self.origin.is_none()
+                && (self.overflow.is_none() && (are_zeros(&self.border) && are_zeros(&self.radii))))
+    }
+
+    // Whether each property that is inherited is left to the parent.
+    fn inherits_all(&self) -> bool
+        ensures { result ≡ all_are_inherited self.now }
+    {
+        self.visible.is_none()
+            && (self.pointer.is_none()
+                && (self.fill.is_none()
+                    && (self.stroke.is_none()
+                        && (self.stroke_width.is_none()
+                            && (self.rule.is_none() && self.ends.is_none())))))
+    }
+}
+
+// Whether a position is 'static'.
+fn is_static(position: Position) -> bool
+    ensures { result ≡ is_static_position position }
+{
+    match position {
+        Position::Static => true,
+        Position::Relative | Position::Absolute | Position::Fixed => false,
+    }
+}
+
+// Whether all of these numbers are 0.
+fn are_zeros(numbers: &[i64]) -> bool
+    ensures { result ≡ list_all is_zero numbers.now }
+{
+    numbers.iter().all(|number| *number == 0)
 }

@@ -188,3 +188,114 @@ fn copies_with_ample_memory(rt: HostRuntime) -> Result<(), Fail> {
     assert_eq!(rt; copied.opacity, 1000);
     Ok(())
 }
+
+#[test]
+fn styles_reach_their_limits_and_no_further(rt: HostRuntime) -> Result<(), Fail> {
+    let alloc = rt.alloc();
+    let style = || -> Style { Style::new(alloc) };
+    assert!(rt; style().in_range() && style().is_empty());
+    for (changed, in_range) in [
+        (
+            Style {
+                opacity: 0,
+                ..style()
+            },
+            true,
+        ),
+        (
+            Style {
+                opacity: 999,
+                ..style()
+            },
+            true,
+        ),
+        (
+            Style {
+                opacity: 1001,
+                ..style()
+            },
+            false,
+        ),
+        (
+            Style {
+                border: [0, 0, 0, 1 << 20],
+                ..style()
+            },
+            true,
+        ),
+        (
+            Style {
+                border: [0, 0, (1 << 20) + 1, 0],
+                ..style()
+            },
+            false,
+        ),
+        (
+            Style {
+                border: [-1, 0, 0, 0],
+                ..style()
+            },
+            false,
+        ),
+        (
+            Style {
+                radii: [0, 0, 0, 0, 0, 0, 0, 1 << 20],
+                ..style()
+            },
+            true,
+        ),
+        (
+            Style {
+                radii: [0, 0, 0, 0, 0, 0, 0, -1],
+                ..style()
+            },
+            false,
+        ),
+        (
+            Style {
+                origin: Some((1 << 26, -(1 << 26))),
+                ..style()
+            },
+            true,
+        ),
+        (
+            Style {
+                origin: Some((0, (1 << 26) + 1)),
+                ..style()
+            },
+            false,
+        ),
+        (
+            Style {
+                stroke_width: Some(1 << 26),
+                ..style()
+            },
+            true,
+        ),
+        (
+            Style {
+                stroke_width: Some((1 << 26) + 1),
+                ..style()
+            },
+            false,
+        ),
+        (
+            Style {
+                stroke_width: Some(-1),
+                ..style()
+            },
+            false,
+        ),
+        (
+            Style {
+                z: Some(i32::MIN),
+                ..style()
+            },
+            true,
+        ),
+    ] {
+        assert_eq!(rt; changed.in_range(), in_range, "{changed:?}");
+        assert!(rt; !changed.is_empty(), "{changed:?}");
+    }
+    Ok(())
+}

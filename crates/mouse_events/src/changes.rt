@@ -4,7 +4,12 @@ ghost use Rattle.mouse_events.specs.Events.{event, on, on_each, change, events_b
 
 use crate::event::{Event, EventKind};
 
-/// Writes the events of a turn from the kept chain to the new one, in place of what was there.
+/// How many events a turn makes at most: a leave and an enter for each member, out, over and move.
+pub const MOST_EVENTS: usize = 515;
+
+/// Writes the events of a turn from the kept chain to the new one, in place of what was there, given for
+/// each member of the kept chain whether it is still in the page. There is room for them; it takes no
+/// memory. UI Events, "Mouse Event Order".
 pub fn write_events(
     events: &mut Vec<Event>,
     kept: &[u32],

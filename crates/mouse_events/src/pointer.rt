@@ -3,18 +3,13 @@ ghost use Rattle.std.specs.Borrow.{sem};
 ghost use Rattle.mouse_events.specs.Events.{events_between};
 ghost use Rattle.mouse_events.specs.Lending.{RestsOn};
 
-use crate::changes::write_events;
+use crate::chain::{LONGEST_CHAIN, keep_chain};
+use crate::changes::{MOST_EVENTS, write_events};
 use crate::event::Event;
 use std::alloc::{AllocError, Global};
 use std::error::Error;
 use std::fmt;
 use std::marker::Model;
-
-/// How many members a chain has at most.
-const LONGEST_CHAIN: usize = 256;
-
-/// How many events a turn makes at most: a leave and an enter for each member, out, over and move.
-const MOST_EVENTS: usize = 515;
 
 /// Memory for a new pointer was refused.
 #[derive(Clone, Copy, Debug, PartialEq, Eq)]
@@ -98,19 +93,7 @@ impl Pointer {
         ensures* keeps { sem 𝓛 (RestsOn self.entry (record { spot = self.old.spot; chain = new_chain.now })) }
     {
         write_events(&mut self.events, &self.chain, alive, new_chain, moved);
-        keep(&mut self.chain, new_chain);
+        keep_chain(&mut self.chain, new_chain);
         &self.events
-    }
-}
-
-/// Puts the new chain in place of the kept one.
-fn keep(chain: &mut Vec<u32>, new_chain: &[u32])
-    requires { length new_chain.now ≤ vec_capacity chain.old }
-    ensures items { chain.new.items ≡ new_chain.now }
-    ensures capacity { vec_capacity chain.new ≡ vec_capacity chain.old }
-{
-    chain.clear();
-    for &member in new_chain {
-        chain.push_reserved(member);
     }
 }

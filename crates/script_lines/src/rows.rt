@@ -1,29 +1,34 @@
 // The rows of the ops, from a JSON object to a command.
 ghost use Rattle.std.specs.Prelude.{◌≡◌, IfOk, IfSome};
 ghost use Rattle.serde_json.specs.View.{view};
+ghost use Rattle.computed_style.specs.Ranges.{IsStyleInRange};
 ghost use Rattle.box_tree.specs.Contents.{IsSpotInRange, IsMaxInRange, IsWithin};
+ghost use Rattle.box_tree.specs.Edited.{IsId};
 ghost use Rattle.script_lines.specs.Command.{new_node, add_of, remove_of, move_of, layout, place_of, resize_of, point_of, hit_of, top_of, command_reading, IsAskable};
 
 use crate::command::Command;
+use crate::style::style_from;
 use crate::values::{
     anchor_from, boxes_from, coordinate, id_from, is_object_of, kind_from, max_from, number_to,
-    style_from, viewport_side,
+    viewport_side,
 };
 use box_tree::{Edit, Kind};
+use computed_style::Style;
 use fractions::Spot;
 use serde_json::Value;
 use std::alloc::{AllocError, Global};
 
-// The parent, the place and the kind of a new node.
+// The parent, the place, the kind and the style of a new node.
 #[tactic(auto, unfolding(crate::specs::Command::new_node))]
-fn node_from(value: &Value) -> Option<(u32, u32, Kind)>
-    ensures { result ≡ new_node (view value.now) }
+fn node_from(alloc: Global, value: &Value) -> Option<(u32, u32, Kind, Style)>
+    ensures value { result ≡ new_node (view value.now) }
+    ensures in_range { IfSome result (λ node. IsStyleInRange node.3) }
 {
     let parent = number_to(value.get("parent"), u32::MAX)?;
     let at = number_to(value.get("at"), u32::MAX)?;
     let kind = kind_from(value.get("kind"))?;
-    style_from(value.get("style"))?;
-    Some((parent, at, kind))
+    let style = style_from(alloc, value.get("style"))?;
+    Some((parent, at, kind, style))
 }
 
 #[tactic(auto, unfolding(crate::specs::Command::add_of))]
@@ -34,7 +39,7 @@ fn add_from(alloc: Global, value: &Value) -> Result<Option<Command>, AllocError>
     if !is_object_of(value, 6) {
         return Ok(None);
     }
-    let Some((parent, at, kind)) = node_from(value) else {
+    let Some((parent, at, kind, style)) = node_from(alloc, value) else {
         return Ok(None);
     };
     let Some(boxes) = boxes_from(alloc, value.get("boxes"))? else {
@@ -45,6 +50,7 @@ fn add_from(alloc: Global, value: &Value) -> Result<Option<Command>, AllocError>
         at,
         kind,
         boxes,
+        style,
     })))
 }
 
@@ -100,6 +106,7 @@ fn place_from(alloc: Global, value: &Value) -> Result<Option<Command>, AllocErro
 #[tactic(auto, unfolding(crate::specs::Command::layout))]
 fn layout_from(value: &Value) -> Option<(u32, Spot, Spot)>
     ensures value { result ≡ layout (view value.now) }
+    ensures id { IfSome result (λ l. IsId l.0) }
     ensures anchor { IfSome result (λ l. IsSpotInRange l.1) }
     ensures max { IfSome result (λ l. IsMaxInRange l.2) }
 {

@@ -1,15 +1,15 @@
 -- Changes one after another: what is done, what is still to do, and the room for it.
-use Rattle.std.proofs.Common.{◌≡◌, ◌≢◌, ℕ, ◌+◌, ◌<◌, ◌≤◌, Bool, true, List, [], length, get_or, take, drop, refl, sym, ap, ◌∙◌, arith, inl, inr}
+use Rattle.std.proofs.Common.{◌≡◌, ◌≢◌, ℕ, ◌+◌, ◌<◌, ◌≤◌, Bool, true, cond, eqb, List, [], length, get_or, take, drop, refl, sym, ap, ◌∙◌, arith, inl, inr}
 use Rattle.std.specs.List.{All}
 use Rattle.std.proofs.lemmas.Bool.Decides.{nat_tests}
 use Rattle.std.proofs.lemmas.Bool.{cases_lt}
-use Rattle.std.proofs.lemmas.List.{get_or_read}
+use Rattle.std.proofs.lemmas.List.{get_or_read, take_all}
 use Rattle.std.proofs.lemmas.List.Sums.{sum_by_more, sum_by-drop_more}
 use Rattle.fractions.specs.declared.rect.Rect.{Rect}
 use Rattle.spatial_index.specs.declared.change.Change.{Change}
 use Rattle.spatial_index.specs.Cells.{IsCell, is_met, is_empty}
-use Rattle.spatial_index.specs.Contents.{GridState, times, once_if, StandsBy, StandsNowhere, StandsAlike, arrivals, IsReserved, AreOfDistinctItems, AreOfOthers}
-use Rattle.spatial_index.specs.Moves.{PutsIn, TakesOut, KeepsItems, HasMoreRoom, HasRoomFor, Moves, moved_if}
+use Rattle.spatial_index.specs.Contents.{GridState, cell_at, times, once_if, StandsBy, StandsNowhere, StandsAlike, arrivals, IsReserved, HasRoomForNoMore, AreOfDistinctItems, AreOfOthers}
+use Rattle.spatial_index.specs.Moves.{PutsIn, TakesOut, KeepsItems, HasNoRoomFor, HasMoreRoom, HasRoomFor, Moves, moved_if}
 use Rattle.spatial_index.proofs.PlanLemmas.{is_met-empty}
 
 abbrev arrives : (level column row : ℕ) → Change → ℕ
@@ -74,7 +74,7 @@ Moves-both old middle new change there taken put =
       spare =
           λ level column row cell.
           let in_middle : IsCell middle.region level column row = rw (sym taken.region) at cell in
-          put.spare level column row in_middle ∙ taken.spare level column row cell;
+          omega (arith, put.spare level column row in_middle, taken.spare level column row cell);
     }
 
 -- the changes before the i-th are carried out, and there is room for the others
@@ -167,10 +167,15 @@ AreBuilt-more start now new items i change old h read distinct moves so_far =
           omega (arith, so_far.room level column row cell', arrivals-drop_more items i change level column row h read, moves.spare level column row cell');
     }
 
--- room for the changes before the i-th was made, and the items stay
+-- what was promised to the cells that the changes before the i-th put their items into is taken back
+pub record AreForgotten (start now : GridState) (changes : List Change) (i : ℕ) : Type 0 where
+  pub same : KeepsItems start now
+  pub spare : (level column row : ℕ) → IsCell start.region level column row → (cell_at now level column row).spare ≡ cond (eqb (arrivals (take i changes) level column row) 0) (cell_at start level column row).spare 0
+
+-- room for the changes before the i-th was made, beside that which there was, and the items stay
 pub record AreReserved (start now : GridState) (changes : List Change) (i : ℕ) : Type 0 where
   pub same : KeepsItems start now
-  pub room : IsReserved now (take i changes)
+  pub spare : (level column row : ℕ) → IsCell start.region level column row → (cell_at now level column row).spare ≡ (cell_at start level column row).spare + arrivals (take i changes) level column row
 
 pub KeepsItems-none : (grid : GridState) → KeepsItems grid grid
 KeepsItems-none grid = record { region = refl; items = λ level column row cell. refl }
@@ -185,19 +190,58 @@ KeepsItems-then start now new first next =
           next.items level column row cell' ∙ first.items level column row cell;
     }
 
-pub AreReserved-none : (start now : GridState) (changes : List Change) → KeepsItems start now → AreReserved start now changes 0
-AreReserved-none start now changes same =
-    record { same = same; room = λ level column row cell. omega (arith, arrivals-nil level column row) }
+pub AreForgotten-none : (grid : GridState) (changes : List Change) → AreForgotten grid grid changes 0
+AreForgotten-none grid changes =
+    record { same = KeepsItems-none grid; spare = λ level column row cell. rw (arrivals-nil level column row) }
+
+forgotten_more : (met : Bool) (spare before middle after count more : ℕ) → middle ≡ cond (eqb count 0) before 0 → after ≡ cond met 0 middle → more ≡ count + once_if met → after ≡ cond (eqb more 0) before 0
+forgotten_more met spare before middle after count more e f g = grind (arith, nat_tests)
+
+pub AreForgotten-more : (start now new : GridState) (changes : List Change) (i : ℕ) (change : Change) → i < length changes → change ≡ get_or changes i change → KeepsItems now new → HasNoRoomFor now new change.new → AreForgotten start now changes i → AreForgotten start new changes (i + 1)
+AreForgotten-more start now new changes i change h read same none so_far =
+    record {
+      same = KeepsItems-then start now new so_far.same same;
+      spare =
+          λ level column row cell.
+          let cell' : IsCell now.region level column row = rw (sym so_far.same.region) at cell in
+          forgotten_more (is_met change.new level column row) 0 _ _ _ _ _ (so_far.spare level column row cell) (none.spare level column row cell') (arrivals-take_more changes i change level column row h read);
+    }
+
+pub AreReserved-none : (grid : GridState) (changes : List Change) → AreReserved grid grid changes 0
+AreReserved-none grid changes =
+    record {
+      same = KeepsItems-none grid;
+      spare = λ level column row cell. omega (arith, arrivals-nil level column row);
+    }
 
 pub AreReserved-more : (start now new : GridState) (changes : List Change) (i : ℕ) (change : Change) → i < length changes → change ≡ get_or changes i change → KeepsItems now new → HasMoreRoom now new change.new → AreReserved start now changes i → AreReserved start new changes (i + 1)
 AreReserved-more start now new changes i change h read same more so_far =
     record {
       same = KeepsItems-then start now new so_far.same same;
-      room =
+      spare =
           λ level column row cell.
-          let cell' : IsCell now.region level column row = rw same.region at cell in
-          omega (arith, so_far.room level column row cell', arrivals-take_more changes i change level column row h read, more.spare level column row cell');
+          let cell' : IsCell now.region level column row = rw (sym so_far.same.region) at cell in
+          omega (arith, so_far.spare level column row cell, arrivals-take_more changes i change level column row h read, more.spare level column row cell');
     }
+
+room_for_no_more : (before middle after count : ℕ) → middle ≡ cond (eqb count 0) before 0 → after ≡ middle + count → after ≡ cond (eqb count 0) before count
+room_for_no_more before middle after count e f = grind (arith, nat_tests)
+
+-- room for all changes, and for no more
+pub HasRoomForNoMore-all : (start middle new : GridState) (changes : List Change) (i j : ℕ) → length changes ≤ i → length changes ≤ j → AreForgotten start middle changes i → AreReserved middle new changes j → HasRoomForNoMore start new changes
+HasRoomForNoMore-all start middle new changes i j h h' forgotten reserved level column row cell =
+    let cell' : IsCell middle.region level column row = rw (sym forgotten.same.region) at cell in
+    let none = rw (take_all i changes h) at (forgotten.spare level column row cell) in
+    let more = rw (take_all j changes h') at (reserved.spare level column row cell') in
+    room_for_no_more _ _ _ (arrivals changes level column row) none more
+
+IsReserved-cell : (before after count : ℕ) → after ≡ cond (eqb count 0) before count → count ≤ after
+IsReserved-cell before after count e = grind (arith, nat_tests)
+
+pub IsReserved-exactly : (old new : GridState) (changes : List Change) → new.region ≡ old.region → HasRoomForNoMore old new changes → IsReserved new changes
+IsReserved-exactly old new changes region room level column row cell =
+    let cell' : IsCell old.region level column row = rw region at cell in
+    IsReserved-cell _ _ _ (room level column row cell')
 
 pub StandsNowhere-same : (old new : GridState) (item : ℕ) → KeepsItems old new → StandsNowhere old item → StandsNowhere new item
 StandsNowhere-same old new item same nowhere =

@@ -1,16 +1,19 @@
 -- What the edit of one level's cells is for the grid: the cells whose numbers were given are those that the bounds meet.
-use Rattle.std.proofs.Common.{◌≡◌, ◌≢◌, ℕ, ◌+◌, ◌*◌, ◌/◌, ◌%◌, ◌<◌, ◌≤◌, Bool, true, false, cond, eqb, List, [], ◌∷◌, length, get_or, set, refl, sym, ap, ◌∙◌, arith, inl, inr, length-set, get_or-set_same, get_or-set_other, subst, replicate, ℤ, pos, ◌≤ℤ◌, Result, Ok, Err, OnOk}
+use Rattle.std.proofs.Common.{◌≡◌, ◌≢◌, ℕ, ◌+◌, ◌*◌, ◌/◌, ◌%◌, ◌<◌, ◌≤◌, Bool, true, false, cond, not, ◌&&◌, eqb, take, List, [], ◌∷◌, length, get_or, set, refl, sym, ap, ◌∙◌, arith, inl, inr, length-set, get_or-set_same, get_or-set_other, subst, replicate, ℤ, pos, ◌≤ℤ◌, Result, Ok, Err, OnOk}
 use Rattle.std.specs.List.{All}
+use Rattle.std.specs.Str.{bytes_eq}
+use Rattle.std.proofs.lemmas.Slice.Eq.{bytes_eq-Decides}
 use Rattle.std.proofs.lemmas.Bool.Decides.{nat_tests, eqb_tells}
 use Rattle.std.proofs.lemmas.List.Elements.{All-head, All-tail}
 use Rattle.std.proofs.lemmas.Bool.{cases_lt}
 use Rattle.std.proofs.lemmas.List.{get_or_read, get_or_past, get_or-replicate, length-replicate}
 use Rattle.std.proofs.lemmas.Nat.{div_below, div-add-mod', mod_below, mul-add-lt}
 use Rattle.fractions.specs.declared.rect.Rect.{Rect}
-use Rattle.spatial_index.specs.Cells.{Region, IsCell, line_of, line_count, cell_number, level_of, is_met}
+use Rattle.spatial_index.specs.declared.change.Change.{Change}
+use Rattle.spatial_index.specs.Cells.{Region, IsCell, line_of, line_count, cell_number, is_met}
 use Rattle.spatial_index.specs.Contents.{CellState, GridState, empty_cell, cell_at, times, once_if, StandsBy, StandsNowhere}
-use Rattle.spatial_index.specs.Levels.{nth_cell, AreIn, HaveRoom, Stand, HasSameItems, HasPromised, HasPut, HasTaken}
-use Rattle.spatial_index.specs.Moves.{IsGrid, PutsIn, TakesOut, KeepsItems, HasMoreRoom, HasRoomFor}
+use Rattle.spatial_index.specs.Levels.{nth_cell, AreIn, HaveRoom, Stand, HasSameItems, HasForgotten, HasPromised, HasPut, HasTaken}
+use Rattle.spatial_index.specs.Moves.{IsGrid, IsPlan, PutsIn, TakesOut, KeepsItems, HasNoRoomFor, HasMoreRoom, HasRoomFor, Moves}
 use Rattle.spatial_index.proofs.TimesLemmas.{times-nil}
 use Rattle.spatial_index.proofs.PlanLemmas.{times-cons, is_met-elsewhere, line_of-in_order}
 
@@ -39,6 +42,12 @@ by_lt {P} m n f g = elim (cases_lt m n) [ inl h ↦ f h | inr h ↦ g h ]
 le_along : {a b m n : ℕ} → a ≡ b → m ≡ n → b ≤ m → a ≤ n
 le_along e f h = omega arith
 
+same_once : (a b : Bool) → once_if a ≡ once_if b → a ≡ b
+same_once true true e = refl
+same_once true false e = absurd (omega arith)
+same_once false true e = absurd (omega arith)
+same_once false false e = refl
+
 le_same : {m n : ℕ} → n ≡ m → m ≤ n
 le_same e = omega arith
 
@@ -46,16 +55,13 @@ nothing_more : (b : Bool) (n : ℕ) → n ≡ n + cond b 0 0
 nothing_more true n = omega arith
 nothing_more false n = omega arith
 
+none_left : (spare n : ℕ) (met : Bool) → n ≡ once_if met → cond (eqb n 0) spare 0 ≡ cond met 0 spare
+none_left spare n true e = rw e
+none_left spare n false e = rw e
+
 -- the grid with other cells in one level
 abbrev pub with_level : GridState → ℕ → List CellState → GridState
 with_level grid level cells = record { region = grid.region; levels = set grid.levels level cells }
-
--- the level and the numbers of the cells that bounds meet
-pub record IsPlan (grid : GridState) (bounds : Rect) (level : ℕ) (numbers : List ℕ) : Type 0 where
-  pub inside : level ≤ 9
-  pub at : level ≡ level_of bounds
-  pub met : (column row : ℕ) → column < line_count level grid.region.width → times (cell_number grid.region.width level column row) numbers ≡ once_if (is_met bounds level column row)
-  pub within : All (λ number. number < line_count level grid.region.height * line_count level grid.region.width) numbers
 
 module _ (grid : GridState) (bounds : Rect) (level : ℕ) (numbers : List ℕ) (is_grid : IsGrid grid) (plan : IsPlan grid bounds level numbers) where
   within_levels : level < length grid.levels
@@ -154,6 +160,17 @@ module _ (grid : GridState) (bounds : Rect) (level : ℕ) (numbers : List ℕ) (
             ];
       }
 
+  HasNoRoomFor-level : (cells : List CellState) → HasForgotten (level_at grid level) cells numbers → HasNoRoomFor grid (with_level grid level cells) bounds
+  HasNoRoomFor-level cells forgotten =
+      record {
+        spare =
+            λ l column row cell.
+            elim (eqb_tells l level) [
+              | inl e ↦ rw e.1 (rw (cell-same cells column row, cell_at-is grid level column row) (forgotten.spare (cell_number grid.region.width level column row) ∙ none_left _ _ (is_met bounds level column row) (plan.met column row (rw e.1 at cell.in_columns))))
+              | inr different ↦ rw (cell-other cells l column row different.1, none_met l column row different.1) refl
+            ];
+      }
+
   HasMoreRoom-level : (cells : List CellState) → HasPromised (level_at grid level) cells numbers → HasMoreRoom grid (with_level grid level cells) bounds
   HasMoreRoom-level cells promised =
       record {
@@ -197,8 +214,43 @@ module _ (was now : GridState) (same : was ≡ now) (bounds : Rect) (level : ℕ
   pub KeepsItems-opened : before ≡ get_or was.levels level before → HasSameItems before cells → KeepsItems now (with_level was level cells)
   KeepsItems-opened read items = rw (← same) (KeepsItems-level was bounds level numbers is_grid plan_was cells (rw (before_is read) at items))
 
+  pub HasNoRoomFor-opened : before ≡ get_or was.levels level before → HasForgotten before cells numbers → HasNoRoomFor now (with_level was level cells) bounds
+  HasNoRoomFor-opened read forgotten = rw (← same) (HasNoRoomFor-level was bounds level numbers is_grid plan_was cells (rw (before_is read) at forgotten))
+
   pub HasMoreRoom-opened : before ≡ get_or was.levels level before → HasPromised before cells numbers → HasMoreRoom now (with_level was level cells) bounds
   HasMoreRoom-opened read promised = rw (← same) (HasMoreRoom-level was bounds level numbers is_grid plan_was cells (rw (before_is read) at promised))
+
+-- a plan holds in each grid of the region
+pub IsPlan-kept : (old new : GridState) (bounds : Rect) (level : ℕ) (numbers : List ℕ) → new.region ≡ old.region → IsPlan old bounds level numbers → IsPlan new bounds level numbers
+IsPlan-kept old new bounds level numbers region plan =
+    record { inside = plan.inside; at = plan.at; met = rw region plan.met; within = rw region plan.within }
+
+-- what a test of two plans says that found no difference
+pub same_plan : (level level' count count' : ℕ) (cells cells' : List ℕ) (differ : Bool) → differ ≡ not (eqb level level' && (bytes_eq cells cells' && eqb count count')) → differ ≡ false → (level ≡ level') × (take count cells ≡ take count' cells')
+same_plan level level' count count' cells cells' differ e same =
+    let equal = (bytes_eq-Decides cells cells').0 in
+    let levels : level ≡ level' = grind (arith, nat_tests) in
+    let counts : count ≡ count' = grind (arith, nat_tests) in
+    let lists : bytes_eq cells cells' ≡ true = grind (arith, nat_tests) in
+    (levels, rw (counts, equal lists))
+
+-- bounds with the same plan meet the same cells
+pub is_met-same : (grid : GridState) (old new : Rect) (level : ℕ) (numbers : List ℕ) → IsPlan grid old level numbers → IsPlan grid new level numbers → (l column row : ℕ) → IsCell grid.region l column row → is_met old l column row ≡ is_met new l column row
+is_met-same grid old new level numbers here there l column row cell =
+    elim (eqb_tells l level) [
+      | inl e ↦ rw e.1 (same_once (is_met old level column row) (is_met new level column row) (sym (here.met column row (rw e.1 at cell.in_columns)) ∙ there.met column row (rw e.1 at cell.in_columns)))
+      | inr different ↦ is_met-elsewhere old l column row (λ same. different.1 (same ∙ sym here.at)) ∙ sym (is_met-elsewhere new l column row (λ same. different.1 (same ∙ sym there.at)))
+    ]
+
+-- an item whose cells stay the same stands by its new bounds already
+pub Moves-none : (grid : GridState) (change : Change) (level : ℕ) (numbers : List ℕ) → IsPlan grid change.old level numbers → IsPlan grid change.new level numbers → StandsBy grid change.item change.old → Moves grid grid change
+Moves-none grid change level numbers here there stands =
+    record {
+      region = refl;
+      moved = λ l column row cell. stands l column row cell ∙ ap once_if (is_met-same grid change.old change.new level numbers here there l column row cell);
+      others = λ item different l column row cell. refl;
+      spare = λ l column row cell. omega arith;
+    }
 
 -- a point of the region lies in one of its cells
 pub IsCell-point : (region : Region) (level : ℕ) (x y : ℤ) → level ≤ 9 → pos 0 ≤ℤ x → x ≤ℤ region.width → pos 0 ≤ℤ y → y ≤ℤ region.height → IsCell region level (line_of level x) (line_of level y)

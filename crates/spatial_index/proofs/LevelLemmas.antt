@@ -1,9 +1,9 @@
 -- One cell more, of those whose numbers are given, is edited.
-use Rattle.std.proofs.Common.{◌≡◌, ◌≢◌, ℕ, ◌+◌, ◌<◌, eqb, List, [], length, get_or, set, take, refl, arith, length-set, get_or-set_same, get_or-set_other, inl, inr, ◌∙◌, ap}
+use Rattle.std.proofs.Common.{◌≡◌, ◌≢◌, ℕ, ◌+◌, ◌<◌, cond, eqb, List, [], length, get_or, set, take, refl, arith, length-set, get_or-set_same, get_or-set_other, inl, inr, ◌∙◌, ap}
 use Rattle.std.proofs.lemmas.Bool.Decides.{nat_tests, eqb_tells}
 use Rattle.std.proofs.lemmas.List.{get_or_read}
 use Rattle.spatial_index.specs.Contents.{CellState, times, once_if, empty_cell}
-use Rattle.spatial_index.specs.Levels.{nth_cell, times_moved, HasSameItems, HasPromised, HasPut, HasTaken, HaveRoom, Stand}
+use Rattle.spatial_index.specs.Levels.{nth_cell, times_moved, HasSameItems, HasForgotten, HasPromised, HasPut, HasTaken, HaveRoom, Stand}
 use Rattle.spatial_index.proofs.TimesLemmas.{times-nil, times_more, times-take-le}
 
 -- what holds of the cell that is set, and of each other cell, holds of each
@@ -30,6 +30,9 @@ HasTaken-none cells item =
       spare = λ number. refl;
     }
 
+pub HasForgotten-none : (cells : List CellState) → HasForgotten cells cells []
+HasForgotten-none cells = record { spare = λ number. rw (times-nil number) }
+
 pub HasPromised-none : (cells : List CellState) → HasPromised cells cells []
 HasPromised-none cells = record { spare = λ number. grind (arith, times-nil number) }
 
@@ -47,6 +50,15 @@ module _ (old cells : List CellState) (numbers : List ℕ) (i n : ℕ) (before a
             nth-set (λ number state. state.items ≡ (nth_cell old number).items) cells n after within
             (items ∙ (ap (λ (state : CellState). state.items) here ∙ so_far.items n))
             (λ number different. so_far.items number);
+      }
+
+  pub HasForgotten-more : after.spare ≡ 0 → HasForgotten old cells (take i numbers) → HasForgotten old (set cells n after) (take (i + 1) numbers)
+  HasForgotten-more spare so_far =
+      record {
+        spare =
+            nth-set (λ number state. state.spare ≡ cond (eqb (times number (take (i + 1) numbers)) 0) (nth_cell old number).spare 0) cells n after within
+            (grind (arith, nat_tests, times_more n numbers i 0 inside))
+            (λ number different. grind (arith, nat_tests, so_far.spare number, times_more number numbers i 0 inside));
       }
 
   pub HasPromised-more : after.spare ≡ before.spare + 1 → HasPromised old cells (take i numbers) → HasPromised old (set cells n after) (take (i + 1) numbers)

@@ -1,7 +1,9 @@
 -- How often a number stands in a list.
-use Rattle.std.proofs.Common.{◌≡◌, ℕ, Some, None, ◌+◌, ◌<◌, ◌≤◌, cond, eqb, List, [], ◌∷◌, ◌++◌, length, get_or, take, refl, arith}
+use Rattle.std.proofs.Common.{◌≡◌, ℕ, Option, Some, None, sym, ◌+◌, ◌<◌, ◌≤◌, cond, eqb, List, [], ◌∷◌, ◌++◌, length, get_or, take, refl, ap, ◌∙◌, arith}
 use Rattle.std.proofs.lemmas.List.Sums.{sum_by_push, sum_by_more, sum_by-take-le, sum_by-swap_remove, sum_by-cons}
-use Rattle.std.specs.List.{swap_remove, position, position_or_len}
+use Rattle.std.specs.List.{swap_remove, slice_get, position, position_or_len}
+use Rattle.std.proofs.lemmas.Option.{get_or_from_slice_get, slice_get_within, slice_get-get_or}
+use Rattle.std.specs.Option.{IfSome}
 use Rattle.std.proofs.lemmas.List.Quantifiers.{position-Some}
 use Rattle.std.proofs.lemmas.Bool.Decides.{nat_tests}
 use Rattle.spatial_index.specs.Contents.{times, once_if}
@@ -38,9 +40,19 @@ absent item (x ∷ xs) h = grind (arith, nat_tests, absent item xs, sum_by-cons 
 pub times-None : (item : ℕ) (items : List ℕ) → position (λ other. eqb other item) items ≡ None → times item items ≡ 0
 times-None item items h = absent item items (grind (arith, nat_tests))
 
--- without the one at the place of the item
-pub times-Some : (item : ℕ) (items : List ℕ) (i d other : ℕ) → position (λ y. eqb y item) items ≡ Some i → times other (swap_remove items i d) + once_if (eqb item other) ≡ times other items
-times-Some item items i d other h =
-    let found = position-Some (λ y. eqb y item) items i d h in
-    let here : get_or items i d ≡ item = grind (arith, nat_tests, found.1) in
-    rw here at (times-swap_remove other items i d found.0)
+-- without the one at a place of the item
+pub times-without : (item : ℕ) (items : List ℕ) (i d other : ℕ) → slice_get items i ≡ Some item → times other (swap_remove items i d) + once_if (eqb item other) ≡ times other items
+times-without item items i d other h =
+    let here : get_or items i d ≡ item = get_or_from_slice_get items i item d h in
+    rw here at (times-swap_remove other items i d (slice_get_within items i item h))
+
+-- the first place of an item is one at which it stands
+pub slice_get-position : (item : ℕ) (items : List ℕ) (i : ℕ) → position (λ other. eqb other item) items ≡ Some i → slice_get items i ≡ Some item
+slice_get-position item items i h =
+    let found = position-Some (λ other. eqb other item) items i 0 h in
+    let here : get_or items i 0 ≡ item = grind (arith, nat_tests, found.1) in
+    slice_get-get_or items i 0 found.0 ∙ ap Some here
+
+pub IfSome-position : (item : ℕ) (items : List ℕ) (place : Option ℕ) → place ≡ position (λ other. eqb other item) items → IfSome place (λ i. slice_get items i ≡ Some item)
+IfSome-position item items None e = tt
+IfSome-position item items (Some i) e = slice_get-position item items i (sym e)

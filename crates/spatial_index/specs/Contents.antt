@@ -53,6 +53,12 @@ abbrev pub IsReserved : GridState → List Change → Type 0
 IsReserved grid changes =
     (level column row : ℕ) → IsCell grid.region level column row → arrivals changes level column row ≤ (cell_at grid level column row).spare
 
+-- no room is kept for what isn't to come: a cell into which changes put their items has room for these, whatever was
+-- promised before, and every other cell as much as before
+abbrev pub HasRoomForNoMore : GridState → GridState → List Change → Type 0
+HasRoomForNoMore old new changes =
+    (level column row : ℕ) → IsCell old.region level column row → (cell_at new level column row).spare ≡ (if arrivals changes level column row == 0 then (cell_at old level column row).spare else arrivals changes level column row)
+
 -- no two changes are of one item
 abbrev pub AreOfDistinctItems : List Change → Type 0
 AreOfDistinctItems changes = AllPairs (λ one other. one.item ≢ other.item) changes

@@ -27,6 +27,10 @@ pub record HasSameItems (old new : List CellState) : Type 0 where
   pub count : length new ≡ length old
   pub items : (number : ℕ) → (nth_cell new number).items ≡ (nth_cell old number).items
 
+-- what was promised to the cells whose numbers stand there is taken back
+pub record HasForgotten (old new : List CellState) (numbers : List ℕ) : Type 0 where
+  pub spare : (number : ℕ) → (nth_cell new number).spare ≡ (if times number numbers == 0 then (nth_cell old number).spare else 0)
+
 pub record HasPromised (old new : List CellState) (numbers : List ℕ) : Type 0 where
   pub spare : (number : ℕ) → (nth_cell new number).spare ≡ (nth_cell old number).spare + times number numbers
 

@@ -1,12 +1,13 @@
 ghost use Rattle.std.specs.Prelude.{◌≡◌, ℕ, ◌+◌, ◌-◌, ◌*◌, ◌≤◌, ◌<◌, ℤ, pos, ◌≤ℤ◌, take, drop, replicate, length, slice_index, if◌then◌else◌, IfOk, OnOk, All};
 ghost use Rattle.fractions.specs.Rect.{IsEmpty};
 ghost use Rattle.spatial_index.specs.Cells.{IsCell, IsSide, IsEmptyOrInside, line_of, line_count, cell_number, level_of, is_met, cells_met};
-ghost use Rattle.spatial_index.specs.Contents.{cell_at, times, once_if, StandsBy, StandsNowhere, StandsAlike, IsReserved, AreOfDistinctItems, AreOfOthers};
-ghost use Rattle.spatial_index.specs.Moves.{PutsIn, TakesOut, KeepsItems, HasMoreRoom, HasRoomFor, Moves};
+ghost use Rattle.spatial_index.specs.Contents.{cell_at, times, once_if, StandsBy, StandsNowhere, StandsAlike, IsReserved, HasRoomForNoMore, AreOfDistinctItems, AreOfOthers};
+ghost use Rattle.spatial_index.specs.Moves.{IsPlan, PutsIn, TakesOut, KeepsItems, HasNoRoomFor, HasMoreRoom, HasRoomFor, Moves};
 
 use crate::change::Change;
 use crate::level::Level;
 use crate::memory::OutOfMemory;
+use crate::places::Places;
 use crate::plan::{Cells, cells_met, line_of};
 use fractions::{Ledger, Rect, Steps};
 use std::alloc::Global;
@@ -29,6 +30,7 @@ pub struct Grid {
     width: i64,
     height: i64,
     levels: Vec<Level>,
+    places: Places,
 }
 
 impl Model for Grid {
@@ -55,12 +57,13 @@ impl Grid {
         for level in 0..LEVELS {
             let columns = line_of(level, w) as usize + 1;
             let rows = line_of(level, h) as usize + 1;
-            levels.push_reserved(Level::new(alloc, rows * columns)?);
+            levels.push_reserved(Level::new(alloc, columns, rows * columns)?);
         }
         Ok(Grid {
             width: w,
             height: h,
             levels,
+            places: Places::new(alloc),
         })
     }
 
@@ -105,16 +108,18 @@ impl Grid {
     }
 
     /// Makes room for changes, so that they can be applied. The cells stay as they are, also where memory is refused.
+    /// Room that was made before for changes that were never applied doesn't add to it.
     pub fn reserve(&mut self, changes: &[Change]) -> Result<(), OutOfMemory>
         requires { All (λ change. IsEmptyOrInside self.old.region change.new) changes.now }
         ensures same { KeepsItems self.old self.new }
         ensures reserved { OnOk result (IsReserved self.new changes.now) }
+        ensures no_more { OnOk result (HasRoomForNoMore self.old self.new changes.now) }
     {
         for change in changes {
             self.forget(&change.new);
         }
         for change in changes {
-            self.promise(&change.new)?;
+            self.promise(change)?;
         }
         Ok(())
     }
@@ -163,25 +168,28 @@ impl Grid {
     // Takes back what was promised for bounds.
     fn forget(&mut self, bounds: &Rect)
         requires { IsEmptyOrInside self.old.region bounds.now }
-        ensures { KeepsItems self.old self.new }
+        ensures same { KeepsItems self.old self.new }
+        ensures forgotten { HasNoRoomFor self.old self.new bounds.now }
     {
         let plan = self.plan(bounds);
         let level = &mut self.levels[usize::from(plan.level)];
         level.forget(&plan.cells[..usize::from(plan.count)]);
     }
 
-    // Makes room for one item more by bounds.
-    fn promise(&mut self, bounds: &Rect) -> Result<(), OutOfMemory>
-        requires { IsEmptyOrInside self.old.region bounds.now }
+    // Makes room for the item of a change by its new bounds, beside what was promised before.
+    fn promise(&mut self, change: &Change) -> Result<(), OutOfMemory>
+        requires { IsEmptyOrInside self.old.region change.now.new }
         ensures same { KeepsItems self.old self.new }
-        ensures room { OnOk result (HasMoreRoom self.old self.new bounds.now) }
+        ensures room { OnOk result (HasMoreRoom self.old self.new change.now.new) }
     {
-        let plan = self.plan(bounds);
+        let plan = self.plan(&change.new);
+        self.places.make_room(change.item)?;
         let level = &mut self.levels[usize::from(plan.level)];
         level.promise(&plan.cells[..usize::from(plan.count)])
     }
 
-    // Takes an item from its old cells to its new ones, in which room was promised.
+    // Takes an item from its old cells to its new ones, in which room was promised. Where they are the same ones, it
+    // stays as it stands.
     fn carry_out(&mut self, change: &Change)
         requires old_bounds { IsEmptyOrInside self.old.region change.now.old }
         requires new_bounds { IsEmptyOrInside self.old.region change.now.new }
@@ -189,28 +197,36 @@ impl Grid {
         requires room { HasRoomFor self.old change.now.new }
         ensures { Moves self.old self.new change.now }
     {
-        self.take_out(change.item, &change.old);
-        self.put(change.item, &change.new);
+        let old = self.plan(&change.old);
+        let new = self.plan(&change.new);
+        if old != new {
+            self.take_out(change, &old);
+            self.put(change, &new);
+        }
     }
 
-    fn put(&mut self, item: u32, bounds: &Rect)
-        requires bounds { IsEmptyOrInside self.old.region bounds.now }
-        requires room { HasRoomFor self.old bounds.now }
-        ensures { PutsIn self.old self.new item bounds.now }
+    // Takes the item of a change out of the cells that its old bounds meet.
+    fn take_out(&mut self, change: &Change, plan: &Cells)
+        requires count { plan.now.count ≤ 4 }
+        requires plan { IsPlan self.old change.now.old plan.now.level (take plan.now.count plan.now.cells) }
+        requires there { StandsBy self.old change.now.item change.now.old }
+        ensures { TakesOut self.old self.new change.now.item change.now.old }
     {
-        let plan = self.plan(bounds);
         let level = &mut self.levels[usize::from(plan.level)];
-        level.put(&plan.cells[..usize::from(plan.count)], item);
+        let numbers = &plan.cells[..usize::from(plan.count)];
+        level.take_out(numbers, change.item, &mut self.places);
     }
 
-    fn take_out(&mut self, item: u32, bounds: &Rect)
-        requires bounds { IsEmptyOrInside self.old.region bounds.now }
-        requires there { StandsBy self.old item bounds.now }
-        ensures { TakesOut self.old self.new item bounds.now }
+    // Puts the item of a change into the cells that its new bounds meet.
+    fn put(&mut self, change: &Change, plan: &Cells)
+        requires count { plan.now.count ≤ 4 }
+        requires plan { IsPlan self.old change.now.new plan.now.level (take plan.now.count plan.now.cells) }
+        requires room { HasRoomFor self.old change.now.new }
+        ensures { PutsIn self.old self.new change.now.item change.now.new }
     {
-        let plan = self.plan(bounds);
         let level = &mut self.levels[usize::from(plan.level)];
-        level.take_out(&plan.cells[..usize::from(plan.count)], item);
+        let numbers = &plan.cells[..usize::from(plan.count)];
+        level.put(numbers, change.item, &mut self.places);
     }
 }
 

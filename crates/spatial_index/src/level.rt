@@ -1,9 +1,10 @@
 ghost use Rattle.std.specs.Prelude.{◌≡◌, ℕ, ◌+◌, ◌≤◌, ◌<◌, ◌==◌, length, slice_index_or, replicate, All, IfOk, OnOk, is_ok};
 ghost use Rattle.spatial_index.specs.Contents.{empty_cell, times};
-ghost use Rattle.spatial_index.specs.Levels.{AreIn, HaveRoom, Stand, HasSameItems, HasPut, HasTaken, HasPromised};
+ghost use Rattle.spatial_index.specs.Levels.{AreIn, HaveRoom, Stand, HasSameItems, HasPut, HasTaken, HasForgotten, HasPromised};
 
 use crate::cell::Cell;
 use crate::memory::OutOfMemory;
+use crate::places::{Places, corner_of};
 use std::alloc::Global;
 use std::marker::Model;
 
@@ -23,13 +24,15 @@ impl Model for Level {
 }
 
 impl Level {
-    // So many empty cells.
-    pub fn new(alloc: Global, count: usize) -> Result<Level, OutOfMemory>
+    // So many empty cells, in rows of this length.
+    pub fn new(alloc: Global, columns: usize, count: usize) -> Result<Level, OutOfMemory>
+        requires { 0 < columns }
         ensures { IfOk result (λ level. level ≡ replicate count empty_cell) }
     {
         let mut cells = Vec::with_capacity(alloc, count)?;
-        for _number in 0..count {
-            cells.push_reserved(Cell::new(alloc));
+        for number in 0..count {
+            let corner = corner_of(number % columns, number / columns);
+            cells.push_reserved(Cell::new(alloc, corner));
         }
         Ok(Level { cells })
     }
@@ -46,7 +49,8 @@ impl Level {
     // Takes back what was promised in these cells.
     pub fn forget(&mut self, numbers: &[u32])
         requires { AreIn self.old numbers.now }
-        ensures { HasSameItems self.old self.new }
+        ensures same_items { HasSameItems self.old self.new }
+        ensures forgotten { HasForgotten self.old self.new numbers.now }
     {
         let cells = &mut self.cells;
         for &number in numbers {
@@ -70,7 +74,7 @@ impl Level {
     }
 
     // Puts an item into each of these cells, which were promised room.
-    pub fn put(&mut self, numbers: &[u32], item: u32)
+    pub fn put(&mut self, numbers: &[u32], item: u32, places: &mut Places)
         requires cells { AreIn self.old numbers.now }
         requires room { HaveRoom self.old numbers.now }
         ensures { HasPut self.old self.new numbers.now item }
@@ -78,12 +82,12 @@ impl Level {
         let cells = &mut self.cells;
         for &number in numbers {
             let cell = &mut cells[number as usize];
-            cell.put(item);
+            cell.put(item, places);
         }
     }
 
     // Takes an item out of each of these cells, in which it stands.
-    pub fn take_out(&mut self, numbers: &[u32], item: u32)
+    pub fn take_out(&mut self, numbers: &[u32], item: u32, places: &mut Places)
         requires cells { AreIn self.old numbers.now }
         requires there { Stand self.old numbers.now item }
         ensures { HasTaken self.old self.new numbers.now item }
@@ -91,7 +95,7 @@ impl Level {
         let cells = &mut self.cells;
         for &number in numbers {
             let cell = &mut cells[number as usize];
-            cell.take_out(item);
+            cell.take_out(item, places);
         }
     }
 }

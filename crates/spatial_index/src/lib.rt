@@ -25,6 +25,7 @@ mod grid;
 pub mod laws;
 mod level;
 mod memory;
+mod places;
 mod plan;
 
 pub use change::Change;

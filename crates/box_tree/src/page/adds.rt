@@ -3,11 +3,12 @@ ghost use Rattle.std.specs.Prelude.{◌≡◌, ◌≢◌, ◌+◌, ◌*◌, ◌�
 ghost use Rattle.std.specs.List.{insert};
 ghost use Rattle.std.specs.Option.{option_map_or, option_copied};
 ghost use Rattle.box_tree.specs.declared.edit.Edit.TheVariants.{Add};
-ghost use Rattle.box_tree.specs.Contents.{has_id, IsBoxInRange};
-ghost use Rattle.box_tree.specs.Edited.{first_fault, edited, answer_of, child_count, ancestors_below};
+ghost use Rattle.box_tree.specs.Contents.{has_id};
+ghost use Rattle.box_tree.specs.Edited.{IsAddInRange, first_fault, edited, answer_of, child_count, ancestors_below};
 ghost use Rattle.box_tree.specs.Forest.{node_count};
 ghost use Rattle.box_tree.specs.Kept.{node_with, with_children, IsRisingFrom, ChangesNode};
 ghost use Rattle.box_tree.specs.Planned.{IsPlanned};
+ghost use Rattle.box_tree.specs.Suits.{node_suits};
 ghost use Rattle.box_tree.specs.declared.plan.Plan.TheVariants.{AddNode};
 
 use super::{Page, place_of};
@@ -16,15 +17,11 @@ use crate::kind::Kind;
 use crate::node::{Boxes, IdList, Node, ORIGIN};
 use crate::piece::PieceList;
 use crate::plan::Plan;
+use crate::suits::node_suits;
+use computed_style::Style;
 use smallvec::SmallVec;
 use std::alloc::{AllocError, Global};
 use std::snapshot::Snapshot;
-
-// The greatest number of nodes at once.
-const NODES: usize = 65_536;
-
-// The greatest id.
-const IDS: u32 = 1_048_576;
 
 // The greatest depth.
 pub(super) const LEVELS: u32 = 256;
@@ -40,8 +37,15 @@ pub(super) struct Seat {
 
 impl Page {
     // The first fault of an add.
-    fn fault_of_add(&self, parent: u32, at: u32, kind: Kind, boxes: &PieceList) -> Option<EditFault>
-        ensures { result ≡ first_fault self.now.contents (Add parent at kind boxes.now) }
+    fn fault_of_add(
+        &self,
+        parent: u32,
+        at: u32,
+        kind: Kind,
+        boxes: &PieceList,
+        style: &Style,
+    ) -> Option<EditFault>
+        ensures { result ≡ first_fault self.now.contents (Add parent at kind boxes.now style.now) }
     {
         let above = self.find(parent);
         if parent != 0 && above.is_none() {
@@ -50,7 +54,7 @@ impl Page {
         if parent == 0 && !self.nodes.is_empty() {
             return Some(EditFault::Root);
         }
-        if !box_count_suits(above.is_none(), boxes.0.len()) {
+        if !self.node_suits_below(parent, kind, style, boxes) {
             return Some(EditFault::Kind);
         }
         let seat = seat_below(above);
@@ -60,10 +64,17 @@ impl Page {
         if seat.depth >= LEVELS {
             return Some(EditFault::Deep);
         }
-        if self.nodes.len() >= NODES || self.next > IDS {
+        if self.is_full_for(boxes.0.len()) {
             return Some(EditFault::Full);
         }
         None
+    }
+
+    // Whether a new node suits this parent, which is none for 0.
+    fn node_suits_below(&self, parent: u32, kind: Kind, style: &Style, boxes: &PieceList) -> bool
+        ensures { result ≡ node_suits (ancestors_below self.now.contents parent) kind style.now boxes.now }
+    {
+        node_suits(self.find(parent), kind, style, boxes)
     }
 
     // The plan of an add, with all its memory.
@@ -73,18 +84,19 @@ impl Page {
         at: u32,
         kind: Kind,
         boxes: &PieceList,
+        style: &Style,
     ) -> Result<Plan, EditFault>
-        requires { All IsBoxInRange boxes.now }
+        requires { IsAddInRange boxes.now style.now }
         ensures contents { self.new.contents ≡ self.old.contents }
         ensures room { self.old.room ≤ self.new.room }
-        ensures planned { IfOk result (λ plan. IsPlanned plan (Add parent at kind boxes.now) self.new) }
-        ensures first_fault { IfErr result (λ why. why ≢ EditFault.OutOfMemory → first_fault self.old.contents (Add parent at kind boxes.now) ≡ Some why) }
+        ensures planned { IfOk result (λ plan. IsPlanned plan (Add parent at kind boxes.now style.now) self.new) }
+        ensures first_fault { IfErr result (λ why. why ≢ EditFault.OutOfMemory → first_fault self.old.contents (Add parent at kind boxes.now style.now) ≡ Some why) }
     {
-        if let Some(fault) = self.fault_of_add(parent, at, kind, boxes) {
+        if let Some(fault) = self.fault_of_add(parent, at, kind, boxes, style) {
             return Err(fault);
         }
         self.nodes.reserve(1)?;
-        self.plan_of_add(parent, at, kind, boxes)
+        self.plan_of_add(parent, at, kind, boxes, style)
     }
 
     // The same where there is no fault, and room in the list of nodes.
@@ -94,11 +106,12 @@ impl Page {
         at: u32,
         kind: Kind,
         boxes: &PieceList,
+        style: &Style,
     ) -> Result<Plan, EditFault>
-        requires range { All IsBoxInRange boxes.now }
-        requires faultless { first_fault self.now.contents (Add parent at kind boxes.now) ≡ None }
+        requires range { IsAddInRange boxes.now style.now }
+        requires faultless { first_fault self.now.contents (Add parent at kind boxes.now style.now) ≡ None }
         requires room { node_count self.now.contents.tree < self.now.room }
-        ensures planned { IfOk result (λ plan. IsPlanned plan (Add parent at kind boxes.now) self.now) }
+        ensures planned { IfOk result (λ plan. IsPlanned plan (Add parent at kind boxes.now style.now) self.now) }
         ensures memory { IfErr result (λ why. why ≡ EditFault.OutOfMemory) }
     {
         let alloc = *self.nodes.allocator();
@@ -111,6 +124,7 @@ impl Page {
             parent,
             children: IdList(Vec::new(alloc)),
             depth,
+            style: style.copy()?,
             anchor: ORIGIN,
             boxes: Boxes::from_pieces(alloc, &boxes.0)?,
             scroll: ORIGIN,
@@ -142,6 +156,7 @@ impl Page {
     {
         self.root = Some(node.id);
         self.next += 1;
+        self.boxes += node.boxes.count();
         self.nodes.push_reserved(node);
     }
 
@@ -153,6 +168,7 @@ impl Page {
     {
         give_children(&mut self.nodes, node.parent, siblings);
         self.next += 1;
+        self.boxes += node.boxes.count();
         self.nodes.push_reserved(node);
     }
 }
@@ -204,11 +220,4 @@ pub(super) fn give_children(nodes: &mut Vec<Node>, id: u32, children: IdList)
         }
         None => unreachable!(),
     }
-}
-
-// Whether so many boxes suit the root, or another block.
-pub(super) fn box_count_suits(is_root: bool, count: usize) -> bool
-    ensures { result ≡ (if is_root then count == 1 else nat_le count 1) }
-{
-    if is_root { count == 1 } else { count <= 1 }
 }

@@ -2,8 +2,9 @@ ghost use Rattle.std.specs.Prelude.{◌≡◌, ◌<◌};
 ghost use Rattle.box_tree.specs.Contents.{IsWithin};
 
 use super::*;
-use box_tree::{Edit, Kind, PieceList};
-use fractions::{Blank, Brand};
+use box_tree::{Edit, Kind, Piece, PieceList};
+use computed_style::Style;
+use fractions::{Blank, Brand, Spot};
 use std::process::Abort;
 use std::test::Fail;
 
@@ -34,6 +35,7 @@ fn block(
         at,
         kind: Kind::Block,
         boxes: boxes_of(alloc, sides)?,
+        style: Style::new(alloc),
     })
 }
 

@@ -115,6 +115,30 @@ fn plans_in_each_level(rt: HostRuntime) -> Result<(), Fail> {
     Ok(())
 }
 
+// A point, a level, and the items of the cell that holds the point, with their number.
+#[derive(Drop)]
+struct Seen(i64, i64, u8, [u32; 2], usize);
+
+fn check_visits<L: Ledger>(rt: &impl Abort, grid: &Grid, rows: &[Seen], steps: &mut Steps<L>) {
+    for row in rows {
+        assert!(rt; 0 <= row.0);
+        assert!(rt; row.0 <= grid.width);
+        assert!(rt; 0 <= row.1);
+        assert!(rt; row.1 <= grid.height);
+        assert!(rt; row.2 <= 9);
+        assert!(rt; row.4 <= 2);
+        let items = grid.visit(row.0, row.1, row.2, steps);
+        assert!(rt;
+            items == &row.3[..row.4],
+            "the items at {}, {} in level {}: {:?}",
+            row.0,
+            row.1,
+            row.2,
+            items
+        );
+    }
+}
+
 // Reserves and applies one change.
 fn change_one<L: Ledger>(
     grid: &mut Grid,
@@ -145,6 +169,14 @@ const CORNER: Rect = Rect {
     b: 5000,
 };
 
+// Other bounds that meet these four cells.
+const SAME_CELLS: Rect = Rect {
+    l: 4095,
+    t: 4095,
+    r: 4097,
+    b: 8000,
+};
+
 // A point of the second cell of level 0.
 const POINT: Rect = Rect {
     l: 4096,
@@ -173,22 +205,31 @@ fn come_move_and_go<L: Ledger>(
     let mut steps = Steps::<L>::new(blank);
     let mut grid = Grid::new(alloc, 20000, 9000)?;
     change_one(&mut grid, 7, NOWHERE, CORNER, &mut steps)?;
-    assert_eq!(rt; grid.visit(4000, 4000, 0, &mut steps), [7].as_slice());
-    assert_eq!(rt; grid.visit(8191, 4095, 0, &mut steps), [7].as_slice());
-    assert_eq!(rt; grid.visit(0, 4096, 0, &mut steps), [7].as_slice());
-    assert_eq!(rt; grid.visit(8191, 8191, 0, &mut steps), [7].as_slice());
-    assert!(rt; grid.visit(8192, 4000, 0, &mut steps).is_empty());
-    assert!(rt; grid.visit(4000, 8192, 0, &mut steps).is_empty());
-    assert!(rt; grid.visit(4000, 4000, 1, &mut steps).is_empty());
+    let in_four_cells = [
+        Seen(4000, 4000, 0, [7, 0], 1),
+        Seen(8191, 4095, 0, [7, 0], 1),
+        Seen(0, 4096, 0, [7, 0], 1),
+        Seen(8191, 8191, 0, [7, 0], 1),
+        Seen(8192, 4000, 0, [0, 0], 0),
+        Seen(4000, 8192, 0, [0, 0], 0),
+        Seen(4000, 4000, 1, [0, 0], 0),
+    ];
+    check_visits(rt, &grid, &in_four_cells, &mut steps);
     change_one(&mut grid, 8, NOWHERE, POINT, &mut steps)?;
-    assert_eq!(rt; grid.visit(4096, 0, 0, &mut steps), [7, 8].as_slice());
-    change_one(&mut grid, 7, CORNER, WIDE, &mut steps)?;
-    assert_eq!(rt; grid.visit(4096, 0, 0, &mut steps), [8].as_slice());
-    assert!(rt; grid.visit(0, 0, 0, &mut steps).is_empty());
-    assert_eq!(rt; grid.visit(20000, 9000, 3, &mut steps), [7].as_slice());
+    change_one(&mut grid, 7, CORNER, SAME_CELLS, &mut steps)?;
+    check_visits(rt, &grid, &[Seen(4096, 0, 0, [7, 8], 2)], &mut steps);
+    assert_eq!(rt; grid.places.place(8, 1), 1);
+    change_one(&mut grid, 7, SAME_CELLS, WIDE, &mut steps)?;
+    assert_eq!(rt; grid.places.place(8, 1), 0);
+    let above = [
+        Seen(4096, 0, 0, [8, 0], 1),
+        Seen(0, 0, 0, [0, 0], 0),
+        Seen(20000, 9000, 3, [7, 0], 1),
+    ];
+    check_visits(rt, &grid, &above, &mut steps);
     change_one(&mut grid, 7, WIDE, NOWHERE, &mut steps)?;
-    assert!(rt; grid.visit(20000, 9000, 3, &mut steps).is_empty());
-    assert_eq!(rt; grid.visit(4096, 0, 0, &mut steps), [8].as_slice());
+    let gone = [Seen(20000, 9000, 3, [0, 0], 0), Seen(4096, 0, 0, [8, 0], 1)];
+    check_visits(rt, &grid, &gone, &mut steps);
     Ok(())
 }
 
@@ -213,6 +254,7 @@ const LAST: Rect = Rect {
     b: 9001,
 };
 
+// One item has a number for which no places are kept.
 fn rebuild_and_change<L: Ledger>(
     rt: &impl Abort,
     alloc: Global,
@@ -225,7 +267,7 @@ fn rebuild_and_change<L: Ledger>(
     let mut steps = Steps::<L>::new(blank);
     let items = [
         Change {
-            item: 1,
+            item: u32::MAX,
             old: LAST,
             new: FIRST,
         },
@@ -236,11 +278,14 @@ fn rebuild_and_change<L: Ledger>(
         },
     ];
     let mut grid = Grid::rebuilt(alloc, 20000, 9000, &items)?;
-    assert_eq!(rt; grid.visit(0, 0, 0, &mut steps), [1, 2].as_slice());
-    assert!(rt; grid.visit(20000, 9000, 0, &mut steps).is_empty());
+    let first = [
+        Seen(0, 0, 0, [u32::MAX, 2], 2),
+        Seen(20000, 9000, 0, [0, 0], 0),
+    ];
+    check_visits(rt, &grid, &first, &mut steps);
     let changes = [
         Change {
-            item: 1,
+            item: u32::MAX,
             old: FIRST,
             new: LAST,
         },
@@ -257,8 +302,11 @@ fn rebuild_and_change<L: Ledger>(
     ];
     grid.reserve(&changes)?;
     grid.apply(&changes, &mut steps);
-    assert!(rt; grid.visit(0, 0, 0, &mut steps).is_empty());
-    assert_eq!(rt; grid.visit(20000, 9000, 0, &mut steps), [1, 3].as_slice());
+    let last = [
+        Seen(0, 0, 0, [0, 0], 0),
+        Seen(20000, 9000, 0, [u32::MAX, 3], 2),
+    ];
+    check_visits(rt, &grid, &last, &mut steps);
     Ok(())
 }
 

@@ -2,6 +2,7 @@ ghost use Rattle.std.specs.Prelude.{◌≡◌, ◌<◌};
 
 use super::*;
 use box_tree::{Kind, Piece, PieceList};
+use computed_style::Style;
 use fractions::{Blank, Brand, Spot};
 use std::process::Abort;
 use std::test::Fail;
@@ -26,6 +27,7 @@ fn first_child(alloc: Global, parent: u32) -> Result<Edit, Fail> {
         at: 0,
         kind: Kind::Block,
         boxes: one_box(alloc)?,
+        style: Style::new(alloc),
     })
 }
 

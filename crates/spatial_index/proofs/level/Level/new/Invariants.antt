@@ -4,7 +4,7 @@ use Rattle.spatial_index.proofs.level.Level.new.Given as goal
 
 abbrev pub invariant-loop-number : goal.invariant-loop-number
 invariant-loop-number l = record {
-  cells : l.cells.items ≡ replicate l._number empty_cell;
-  count : vec_len l.cells ≡ l._number;
+  cells : l.cells.items ≡ replicate l.number empty_cell;
+  count : vec_len l.cells ≡ l.number;
   room : vec_capacity l.cells ≡ l.count;
 }

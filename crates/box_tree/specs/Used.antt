@@ -1,0 +1,123 @@
+-- The used values of a node: each sentence is a function of the parent, none for the root, and of the node itself.
+use Rattle.std.specs.Prelude.{Option, None, Some, Bool, true, false, not, ◌&&◌, ◌||◌, if◌then◌else◌, nat_lt, length, is_some, unwrap_or, ℤ, pos}
+use Rattle.computed_style.specs.declared.style.Position.{Position}
+use Rattle.computed_style.specs.declared.style.Position.TheVariants.{Static, Relative, Absolute, Fixed}
+use Rattle.box_tree.specs.declared.kind.Kind.{Kind}
+use Rattle.box_tree.specs.declared.kind.Kind.TheVariants.{Block, Inline, InlineBlock, Image, Text}
+use Rattle.box_tree.specs.Forest.{Label}
+
+-- the position that counts (CSS 2.2, 9.3.1): a text has none of its own, so it is static
+abbrev pub position_as : Kind → Position → Position
+position_as Block position = position
+position_as Inline position = position
+position_as InlineBlock position = position
+position_as Image position = position
+position_as Text position = Static
+
+abbrev pub used_position : Label → Position
+used_position n = position_as n.kind n.style.position
+
+-- out of flow by its position (CSS 2.2, 9.6)
+abbrev pub takes_out : Position → Bool
+takes_out Static = false
+takes_out Relative = false
+takes_out Absolute = true
+takes_out Fixed = true
+
+-- a node is taken out where its position is absolute or fixed
+abbrev pub is_taken_out : Option Label → Label → Bool
+is_taken_out parent n = takes_out (used_position n)
+
+-- a node floats where its float is left or right, it isn't taken out and it isn't the root (CSS 2.2, 9.7)
+abbrev pub is_floating : Option Label → Label → Bool
+is_floating None n = false
+is_floating (Some parent) n = n.style.floats && not (is_taken_out (Some parent) n)
+
+-- block level by kind (CSS 2.2, 9.2.1 and 9.7), where the node leaves the flow or not, and its display is block or not:
+-- blocks are, text never is; the others are where they leave the flow, and an image where its display is block too
+abbrev pub is_block_level_as : Kind → (leaves display_block : Bool) → Bool
+is_block_level_as Block leaves display_block = true
+is_block_level_as Inline leaves display_block = leaves
+is_block_level_as InlineBlock leaves display_block = leaves
+is_block_level_as Image leaves display_block = leaves || display_block
+is_block_level_as Text leaves display_block = false
+
+-- a node is block level where it is the root, or by its kind; it leaves the flow where it is taken out or floats
+abbrev pub is_block_level : Option Label → Label → Bool
+is_block_level None n = true
+is_block_level (Some parent) n =
+    is_block_level_as n.kind (is_taken_out (Some parent) n || is_floating (Some parent) n) n.style.display_block
+
+-- a block container by kind (CSS 2.2, 9.2.1), where the node is block level or not
+abbrev pub is_block_container_as : Kind → (block_level : Bool) → Bool
+is_block_container_as Block block_level = true
+is_block_container_as Inline block_level = block_level
+is_block_container_as InlineBlock block_level = true
+is_block_container_as Image block_level = false
+is_block_container_as Text block_level = false
+
+-- a block container is a block, an inline-block or a block level inline
+abbrev pub is_block_container : Option Label → Label → Bool
+is_block_container parent n = is_block_container_as n.kind (is_block_level parent n)
+
+-- of an atomic kind (CSS 2.2, 9.2.2)
+abbrev pub is_atomic_as : Kind → Bool
+is_atomic_as Block = false
+is_atomic_as Inline = false
+is_atomic_as InlineBlock = true
+is_atomic_as Image = true
+is_atomic_as Text = false
+
+-- a node is atomic where it is an inline-block or an image that isn't block level
+abbrev pub is_atomic : Option Label → Label → Bool
+is_atomic parent n = is_atomic_as n.kind && not (is_block_level parent n)
+
+-- a node is transformed where it is block level or atomic and its transform isn't none (CSS Transforms 1, 2 and 3)
+abbrev pub is_transformed : Option Label → Label → Bool
+is_transformed parent n = (is_block_level parent n || is_atomic parent n) && nat_lt 0 (length n.style.transform)
+
+-- not static (CSS 2.2, 9.3.2)
+abbrev pub takes_offsets : Position → Bool
+takes_offsets Static = false
+takes_offsets Relative = true
+takes_offsets Absolute = true
+takes_offsets Fixed = true
+
+-- a node is positioned where its position isn't static
+abbrev pub is_positioned : Option Label → Label → Bool
+is_positioned parent n = takes_offsets (used_position n)
+
+-- fixed
+abbrev pub is_fixed_at : Position → Bool
+is_fixed_at Static = false
+is_fixed_at Relative = false
+is_fixed_at Absolute = false
+is_fixed_at Fixed = true
+
+-- whether a node of this kind can make a stacking context
+abbrev pub may_make_context : Kind → Bool
+may_make_context Block = true
+may_make_context Inline = true
+may_make_context InlineBlock = true
+may_make_context Image = true
+may_make_context Text = false
+
+-- a node that isn't the root or a text is a real stacking context where it is fixed, or positioned with an integer
+-- z-index (CSS 2.2, 9.9.1), or its opacity is below 1 (CSS Color 3, 3.2), or it is transformed (CSS Transforms 1, 3)
+abbrev pub has_context_style : Option Label → Label → Bool
+has_context_style parent n =
+    is_fixed_at (used_position n)
+    || ((is_positioned parent n && is_some n.style.z) || (nat_lt n.style.opacity 1000 || is_transformed parent n))
+
+-- the root is a real stacking context, and every other node but a text by its style
+abbrev pub is_real_context : Option Label → Label → Bool
+is_real_context None n = true
+is_real_context (Some parent) n = may_make_context n.kind && has_context_style (Some parent) n
+
+-- the level in the stacking context around: the z-index of a positioned node, where it is given, and else 0 (CSS 2.2, 9.9.1)
+abbrev pub stack_level : Option Label → Label → ℤ
+stack_level parent n = if is_positioned parent n then unwrap_or n.style.z (pos 0) else pos 0
+
+-- a node is in flow where it neither floats nor is positioned nor is a real stacking context
+abbrev pub is_in_flow : Option Label → Label → Bool
+is_in_flow parent n = not (is_floating parent n) && (not (is_positioned parent n) && not (is_real_context parent n))

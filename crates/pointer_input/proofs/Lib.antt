@@ -1,0 +1,4 @@
+pub mod PressLemmas
+pub mod InputLemmas
+pub mod ClickLemmas
+pub mod HolderLemmas

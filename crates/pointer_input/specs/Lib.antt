@@ -1,0 +1,8 @@
+pub mod State
+pub mod Capture
+pub mod Presses
+pub mod Buttons
+pub mod Inputs
+pub mod Lending
+pub mod Clicks
+pub mod Runs

@@ -1,0 +1,11 @@
+//! Where the nodes of a page stand.
+//!
+//! It promises that the space of a node is the product of the factors that `specs/Spaces.antt` names, along its
+//! containing blocks and from the viewport inward, and that a local point is the point of the viewport in that space. It
+//! stands on `box_tree` for the page and its containing blocks, on `computed_style` for the borders and on `fractions`
+//! for the counter of steps.
+#![tactic(auto)]
+
+mod space;
+
+pub use space::{FinePoint, Translation, local_point, plain_space};

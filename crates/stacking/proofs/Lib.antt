@@ -1,0 +1,11 @@
+pub mod SortLemmas
+pub mod ListLemmas
+pub mod ShareLemmas
+pub mod LevelLemmas
+pub mod PageLemmas
+pub mod GatherLemmas
+pub mod BoxLemmas
+pub mod OrderLemmas
+pub mod SeenLemmas
+pub mod NextLemmas
+pub mod ContextLemmas

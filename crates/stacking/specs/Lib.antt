@@ -1,0 +1,5 @@
+pub mod Sorting
+pub mod Painting
+pub mod OnPage
+pub mod Contexts
+pub mod Laws

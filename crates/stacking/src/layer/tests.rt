@@ -1,0 +1,179 @@
+use super::*;
+use crate::context::context_of;
+use box_tree::{Edit, Kind, Piece, PieceList};
+use computed_style::{Position, Style};
+use std::process::Abort;
+use std::test::Fail;
+
+// What is declared on a node.
+#[derive(Clone, Copy)]
+struct Look {
+    position: Position,
+    z: Option<i32>,
+    floats: bool,
+    display_block: bool,
+    opacity: u16,
+}
+
+const PLAIN: Look = Look {
+    position: Position::Static,
+    z: None,
+    floats: false,
+    display_block: false,
+    opacity: 1000,
+};
+
+const RELATIVE: Look = Look {
+    position: Position::Relative,
+    ..PLAIN
+};
+
+const FLOAT: Look = Look {
+    floats: true,
+    ..PLAIN
+};
+
+const DISPLAY_BLOCK: Look = Look {
+    display_block: true,
+    ..PLAIN
+};
+
+// A relative node with a z-index.
+fn with_z(z: i32) -> Look {
+    Look {
+        z: Some(z),
+        ..RELATIVE
+    }
+}
+
+// Adds a node with one box after the other children of its parent.
+fn add(
+    rt: &impl Abort,
+    alloc: Global,
+    page: &mut Page,
+    (parent, at, kind, look): (u32, u32, Kind, Look),
+) -> Result<(), Fail> {
+    let piece = Piece {
+        line: 0,
+        l: 0,
+        t: 0,
+        w: 50,
+        h: 50,
+    };
+    let mut style = Style::new(alloc);
+    style.position = look.position;
+    style.z = look.z;
+    style.floats = look.floats;
+    style.display_block = look.display_block;
+    style.opacity = look.opacity;
+    let edit = Edit::Add {
+        parent,
+        at,
+        kind,
+        boxes: PieceList(Vec::from_array(alloc, [piece])?),
+        style,
+    };
+    assert!(rt; edit.in_range());
+    let prepared = page.check(&edit)?;
+    let undo = page.commit(prepared);
+    page.settle(undo);
+    Ok(())
+}
+
+#[test]
+fn layers_are_walked_in_painting_order(rt: HostRuntime) -> Result<(), Fail> {
+    let alloc = rt.alloc();
+    let root = (0, 0, Kind::Block, PLAIN);
+    for (adds, expected) in [
+        // a z-index, auto, a block with a text, a float, a block, a negative z-index
+        (
+            [
+                root,
+                (1, 0, Kind::Block, with_z(1)),
+                (1, 1, Kind::Block, RELATIVE),
+                (1, 2, Kind::Block, PLAIN),
+                (4, 0, Kind::Text, PLAIN),
+                (1, 3, Kind::Block, FLOAT),
+                (1, 4, Kind::Block, PLAIN),
+                (1, 5, Kind::Block, with_z(-1)),
+            ]
+            .as_slice(),
+            [1, 8, 4, 7, 6, 5, 3, 2].as_slice(),
+        ),
+        // a node with z auto gives its members to the context around
+        (
+            [
+                root,
+                (1, 0, Kind::Block, RELATIVE),
+                (2, 0, Kind::Block, with_z(5)),
+                (1, 1, Kind::Block, with_z(1)),
+            ]
+            .as_slice(),
+            [1, 2, 4, 3].as_slice(),
+        ),
+        // and one with z 0 keeps them
+        (
+            [
+                root,
+                (1, 0, Kind::Block, with_z(0)),
+                (2, 0, Kind::Block, with_z(5)),
+                (1, 1, Kind::Block, with_z(1)),
+            ]
+            .as_slice(),
+            [1, 2, 3, 4].as_slice(),
+        ),
+        // the content of an image lies on lines, above the boxes of blocks
+        (
+            [
+                root,
+                (1, 0, Kind::Image, DISPLAY_BLOCK),
+                (1, 1, Kind::Block, PLAIN),
+            ]
+            .as_slice(),
+            [1, 2, 3, 2].as_slice(),
+        ),
+        // a block in an inline is painted below the inline, and an inline-block as one
+        (
+            [
+                root,
+                (1, 0, Kind::Inline, PLAIN),
+                (2, 0, Kind::Block, PLAIN),
+                (1, 1, Kind::InlineBlock, PLAIN),
+                (4, 0, Kind::Block, PLAIN),
+                (2, 1, Kind::Text, PLAIN),
+            ]
+            .as_slice(),
+            [1, 3, 2, 6, 4, 5].as_slice(),
+        ),
+    ] {
+        let mut page = Page::new(alloc, 81_920, 46_080);
+        for adding in adds {
+            add(&rt, alloc, &mut page, *adding)?;
+        }
+        assert!(rt; page.has(1));
+        let items = layer_of(alloc, &page, 1)?;
+        let nodes = items.iter().map(|item| item.node).collect(alloc)?;
+        assert_eq!(rt; nodes.as_slice(), expected);
+    }
+    Ok(())
+}
+
+#[test]
+fn the_context_around_is_the_nearest_above(rt: HostRuntime) -> Result<(), Fail> {
+    let alloc = rt.alloc();
+    let mut page = Page::new(alloc, 81_920, 46_080);
+    for adding in [
+        (0, 0, Kind::Block, PLAIN),
+        (1, 0, Kind::Block, RELATIVE),
+        (2, 0, Kind::Block, with_z(5)),
+        (3, 0, Kind::Block, PLAIN),
+        (4, 0, Kind::Text, PLAIN),
+    ] {
+        add(&rt, alloc, &mut page, adding)?;
+    }
+    for (id, expected) in [(1, 0), (2, 1), (3, 1), (4, 3), (5, 3)] {
+        assert!(rt; page.has(id));
+        assert_eq!(rt; context_of(&page, id), expected, "above {id}");
+    }
+    Ok(())
+}
