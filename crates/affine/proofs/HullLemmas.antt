@@ -5,7 +5,7 @@ use borrow.Author.Differences.{lt_out, le_out, true_is_lt}
 use Rattle.std.proofs.Math.Nat.{mul-le-mul_left, mul-le-mul_right}
 use Rattle.std.proofs.lemmas.Int.{ints, clamps}
 use Rattle.fractions.specs.declared.rect.Rect.{Rect}
-use Rattle.fractions.proofs.Integers.{mul_assoc, add-mul}
+use Rattle.whole_numbers.proofs.Products.{mul_assoc, add-mul, le-mul, lt-mul}
 use Rattle.affine.specs.declared.map.Parts.{Parts}
 use Rattle.affine.specs.Point.{image, whole_point, floor_of}
 use Rattle.affine.specs.Hull.{IsInClosed, IsHull, least_of, greatest_of, hull_of, zeros_if_empty}
@@ -17,15 +17,6 @@ mul-le n p q h = omega (arith, ints, mul-le-mul_left n (le_out p q h))
 
 mul-le_turned : (n : ℕ) (p q : ℤ) → p ≤ℤ q → (negsuc n *ℤ q) ≤ℤ (negsuc n *ℤ p)
 mul-le_turned n p q h = omega (arith, ints, mul-le-mul_left (suc n) (le_out p q h))
-
-le-mul : (p q w : ℤ) → pos 0 <ℤ w → p ≤ℤ q → (p *ℤ w) ≤ℤ (q *ℤ w)
-le-mul p q (pos w) positive h = omega (arith, ints, mul-le-mul_right w (le_out p q h))
-le-mul p q (negsuc w) positive h = absurd (omega (arith, ints))
-
-lt-mul : (p q w : ℤ) → pos 0 <ℤ w → p <ℤ q → (p *ℤ w) <ℤ (q *ℤ w)
-lt-mul p q (pos zero) positive h = absurd (omega (arith, ints))
-lt-mul p q (pos (suc w)) positive h = omega (arith, ints, mul-le-mul_right (suc w) (lt_out p q h))
-lt-mul p q (negsuc w) positive h = absurd (omega (arith, ints))
 
 -- a x is at least a times one of the ends between which x lies, and at most a times the other
 pub one_end_below : (a l r x w : ℤ) → (l *ℤ w) ≤ℤ x → x ≤ℤ (r *ℤ w) → ((a *ℤ l *ℤ w) ≤ℤ (a *ℤ x)) ⊎ ((a *ℤ r *ℤ w) ≤ℤ (a *ℤ x))
@@ -77,6 +68,9 @@ corner-above a c e u v x y w p q = rw (corner-mul a c e u v w) (sum-le (a *ℤ x
     sum-le : (s t z s' t' : ℤ) → s ≤ℤ s' → t ≤ℤ t' → (s +ℤ t +ℤ z) ≤ℤ (s' +ℤ t' +ℤ z)
     sum-le s t z s' t' p q = omega (arith, ints)
 
+below : {w : ℤ} → pos 0 <ℤ w → pos 0 ≤ℤ w
+below h = omega (arith, ints)
+
 chain : (p q r : ℤ) → p ≤ℤ q → q ≤ℤ r → p ≤ℤ r
 chain p q r h k = omega (arith, ints)
 
@@ -94,7 +88,7 @@ module _ (a c e l r t b : ℤ) where
         let least = least-below (row a c e l t (pos 1)) (row a c e r t (pos 1)) (row a c e l b (pos 1)) (row a c e r b (pos 1)) in
         let under : (u v : ℤ) → least_corner ≤ℤ row a c e u v (pos 1) → (a *ℤ u *ℤ w) ≤ℤ (a *ℤ x) → (c *ℤ v *ℤ w) ≤ℤ (c *ℤ y) → (least_corner *ℤ w) ≤ℤ row a c e x y w =
         λ u v h p q. chain (least_corner *ℤ w) (row a c e u v (pos 1) *ℤ w) (row a c e x y w)
-        (le-mul least_corner (row a c e u v (pos 1)) w positive h) (corner-below a c e u v x y w p q) in
+        (le-mul least_corner (row a c e u v (pos 1)) w (below positive) h) (corner-below a c e u v x y w p q) in
         elim (one_end_below a l r x w from_l to_r) [
           | inl p ↦ elim (one_end_below c t b y w from_t to_b) [ inl q ↦ under l t least.0 p q | inr q ↦ under l b least.2 p q ]
           | inr p ↦ elim (one_end_below c t b y w from_t to_b) [ inl q ↦ under r t least.1 p q | inr q ↦ under r b least.3 p q ]
@@ -105,7 +99,7 @@ module _ (a c e l r t b : ℤ) where
         let greatest = greatest-above (row a c e l t (pos 1)) (row a c e r t (pos 1)) (row a c e l b (pos 1)) (row a c e r b (pos 1)) in
         let over : (u v : ℤ) → row a c e u v (pos 1) ≤ℤ greatest_corner → (a *ℤ x) ≤ℤ (a *ℤ u *ℤ w) → (c *ℤ y) ≤ℤ (c *ℤ v *ℤ w) → row a c e x y w ≤ℤ (greatest_corner *ℤ w) =
         λ u v h p q. chain (row a c e x y w) (row a c e u v (pos 1) *ℤ w) (greatest_corner *ℤ w)
-        (corner-above a c e u v x y w p q) (le-mul (row a c e u v (pos 1)) greatest_corner w positive h) in
+        (corner-above a c e u v x y w p q) (le-mul (row a c e u v (pos 1)) greatest_corner w (below positive) h) in
         elim (one_end_above a l r x w from_l to_r) [
           | inl p ↦ elim (one_end_above c t b y w from_t to_b) [ inl q ↦ over l t greatest.0 p q | inr q ↦ over l b greatest.2 p q ]
           | inr p ↦ elim (one_end_above c t b y w from_t to_b) [ inl q ↦ over r t greatest.1 p q | inr q ↦ over r b greatest.3 p q ]
@@ -126,7 +120,7 @@ floor-below : (n q s w : ℤ) → pos 0 <ℤ q → pos 0 <ℤ w → (n *ℤ w) �
 floor-below n q s w hq hw h =
     let f = floor_of n q in
     let floor = IsFloor-floor_of n q (some_from_positive q hq) in
-    rw (← mul_assoc f q w) (chain (f *ℤ q *ℤ w) (n *ℤ w) s (le-mul (f *ℤ q) n w hw (floor.at_most hq)) h)
+    rw (← mul_assoc f q w) (chain (f *ℤ q *ℤ w) (n *ℤ w) s (le-mul (f *ℤ q) n w (below hw) (floor.at_most hq)) h)
 
 next-above : (n q s w : ℤ) → pos 0 <ℤ q → pos 0 <ℤ w → s ≤ℤ (n *ℤ w) → s <ℤ ((floor_of n q +ℤ pos 1) *ℤ (q *ℤ w))
 next-above n q s w hq hw h =

@@ -2,18 +2,11 @@ use Rattle.std.proofs.Common.{◌≡◌, ℤ, pos, ◌+ℤ◌, ◌-ℤ◌, ◌*�
 use Rattle.std.proofs.lemmas.Int.{ints}
 use borrow.Author.Differences.{same_in, same_out, sum_is_lem, neg_is}
 use Rattle.std.proofs.Math.IntN.{*ℤ_comm}
-use Rattle.fractions.proofs.Integers.{mul_assoc, add-mul, neg-mul, mul-neg}
+use Rattle.whole_numbers.proofs.Products.{mul_assoc, add-mul, mul-add, neg-mul, mul-neg, mul_right_comm, mul_left_comm}
 use Rattle.affine.specs.declared.map.Parts.{Parts}
 use Rattle.affine.specs.Map.{matrix_product, product, lowest_terms, common_divisor}
 use Rattle.affine.specs.Point.{Point, IsSamePoint, image, whole_point, determinant, preimage}
 use Rattle.affine.proofs.MapLemmas.{IsMultiple, IsMultiple-lowest_terms}
-
-pub mul-add : (a b c : ℤ) → a *ℤ (b +ℤ c) ≡ a *ℤ b +ℤ a *ℤ c
-mul-add a b c = *ℤ_comm a (b +ℤ c) ∙ add-mul b c a ∙ ap (λ s. s +ℤ c *ℤ a) (*ℤ_comm b a) ∙ ap (λ s. a *ℤ b +ℤ s) (*ℤ_comm c a)
-
--- the last two factors may change places
-pub mul_right_comm : (a b c : ℤ) → a *ℤ b *ℤ c ≡ a *ℤ c *ℤ b
-mul_right_comm a b c = mul_assoc a b c ∙ ap (λ s. a *ℤ s) (*ℤ_comm b c) ∙ sym (mul_assoc a c b)
 
 -- a sum of three products whose first factors are multiples of g is a multiple of g
 row-multiple :
@@ -61,10 +54,6 @@ pub IsSamePoint-product :
 IsSamePoint-product left right at =
     subst (λ p. IsSamePoint (image (product left right) at) p) (image-matrix_product left right at)
     (IsSamePoint-lowest_terms (matrix_product left right) at)
-
--- the first two factors of three may change places
-pub mul_left_comm : (a b c : ℤ) → a *ℤ (b *ℤ c) ≡ b *ℤ (a *ℤ c)
-mul_left_comm a b c = sym (mul_assoc a b c) ∙ ap (λ s. s *ℤ c) (*ℤ_comm a b) ∙ mul_assoc b a c
 
 -- a row of the matrix by the preimage of a vector is the vector's coordinate times the determinant
 row-preimage :

@@ -8,7 +8,7 @@
 // preimage, rounded down, and None exactly where the map is singular; and that a hull is the least rectangle of whole
 // units that holds every image of a closed rectangle, met with a region. specs/Point.antt says what a map means as a
 // function on pairs of exact fractions, and the contracts tie the parts to that meaning.
-// It stands on fractions and on the transform functions of computed_style.
+// It stands on fractions, on the transform functions of computed_style and on the lemmas of whole_numbers.
 #![tactic(auto)]
 
 mod functions;

@@ -164,6 +164,7 @@ fn declared_values_replace_inherited_ones(rt: HostRuntime) {
     assert_eq!(rt; compute(&above, &own), second);
 }
 
+// A style in which each key is declared, and none as it is where nothing is; and the text of the error.
 #[test]
 fn copies_with_ample_memory(rt: HostRuntime) -> Result<(), Fail> {
     let functions = [
@@ -171,21 +172,31 @@ fn copies_with_ample_memory(rt: HostRuntime) -> Result<(), Fail> {
         Function::Quarter { turns: 3 },
         Function::Scale { x: 3, y: 4, q: 5 },
     ];
-    let mut style = Style::new(rt.alloc());
-    style.transform = Functions(Vec::from_array(rt.alloc(), functions)?);
-    style.z = Some(-4);
-    style.overflow = Some(Overflow::Auto);
-    style.border = [1, 2, 3, 4];
-    style.ends = Some(Ends::Round);
-
-    let copied = style.copy()?;
-    assert_eq!(rt; copied.transform.0.as_slice(), functions.as_slice());
-    assert_eq!(rt; copied.z, Some(-4));
-    assert_eq!(rt; copied.overflow, Some(Overflow::Auto));
-    assert_eq!(rt; copied.border, [1, 2, 3, 4]);
-    assert_eq!(rt; copied.ends, Some(Ends::Round));
-    assert_eq!(rt; copied.position, Position::Static);
-    assert_eq!(rt; copied.opacity, 1000);
+    let style = Style {
+        position: Position::Fixed,
+        floats: true,
+        z: Some(-4),
+        opacity: 999,
+        transform: Functions(Vec::from_array(rt.alloc(), functions)?),
+        origin: Some((13, -14)),
+        overflow: Some(Overflow::Auto),
+        border: [1, 2, 3, 4],
+        radii: [5, 6, 7, 8, 9, 10, 11, 12],
+        display_block: true,
+        visible: Some(false),
+        pointer: Some(PointerEvents::Fill),
+        fill: Some(false),
+        stroke: Some(true),
+        stroke_width: Some(7),
+        rule: Some(Rule::EvenOdd),
+        ends: Some(Ends::Round),
+    };
+    let copied = format!(in rt.alloc(); "{:?}", style.copy()?)?;
+    let fields =
+        "Style { position: Fixed, floats: true, z: Some(-4), opacity: 999, transform: Functions([Translate { x: 1, y: -2 }, Quarter { turns: 3 }, Scale { x: 3, y: 4, q: 5 }]), origin: Some((13, -14)), overflow: Some(Auto), border: [1, 2, 3, 4], radii: [5, 6, 7, 8, 9, 10, 11, 12], display_block: true, visible: Some(false), pointer: Some(Fill), fill: Some(false), stroke: Some(true), stroke_width: Some(7), rule: Some(EvenOdd), ends: Some(Round) }";
+    assert_eq!(rt; copied.as_str(), fields);
+    let refused = format!(in rt.alloc(); "{OutOfMemory}")?;
+    assert_eq!(rt; refused.as_str(), "out of memory");
     Ok(())
 }
 

@@ -1,10 +1,14 @@
-use Rattle.std.proofs.Common.{◌≤◌, ◌≡◌, ℤ, pos, negsuc, ◌+ℤ◌, ◌-ℤ◌, ◌*ℤ◌, ◌<ℤ◌, ◌≤ℤ◌, neg_ℤ, arith, ap, ◌∙◌}
+use Rattle.std.proofs.Common.{◌^◌, ◌≤◌, ◌≡◌, to_z, of_z, ℤ, pos, negsuc, ◌+ℤ◌, ◌-ℤ◌, ◌*ℤ◌, ◌<ℤ◌, ◌≤ℤ◌, neg_ℤ, arith, ap, ◌∙◌}
 use Rattle.std.proofs.Math.IntN.{+ℤ_one, -ℤ_one, suc_ℤ-*ℤ, pred_ℤ-*ℤ}
 use Rattle.std.specs.Prelude.{unsigned_abs}
-use Rattle.std.specs.Int.{int_div_euclid}
+use Rattle.std.specs.Int.{w128, int_div_euclid}
 use Rattle.std.proofs.lemmas.Int.{ints}
 use Rattle.fractions.specs.Division.{IsFloor, IsCeiling}
-use Rattle.fractions.proofs.Integers.{neg-mul, mul-neg}
+use Rattle.whole_numbers.proofs.Products.{neg-mul, mul-neg}
+
+-- the code's -z
+pub negated : (z : ℤ) → unsigned_abs z ≤ 2 ^ 126 → to_z w128 (of_z w128 (pos 0 -ℤ to_z w128 (of_z w128 z))) ≡ neg_ℤ z
+negated z small = omega (arith, ints)
 
 -- the product by the next number and by the previous one
 pub next-mul : (k d : ℤ) → (k +ℤ pos 1) *ℤ d ≡ k *ℤ d +ℤ d
@@ -23,11 +27,6 @@ pub div_euclid-above : (n d : ℤ) → pos 0 <ℤ d → n <ℤ (int_div_euclid n
 div_euclid-above (pos a) (pos b) h = omega (arith, ints)
 div_euclid-above (negsuc a) (pos b) h = omega (arith, ints)
 div_euclid-above n (negsuc b) h = absurd (omega (arith, ints))
-
-pub div_euclid-size : (n d : ℤ) → pos 0 <ℤ d → unsigned_abs (int_div_euclid n d) ≤ unsigned_abs n
-div_euclid-size (pos a) (pos b) h = omega (arith, ints)
-div_euclid-size (negsuc a) (pos b) h = omega (arith, ints)
-div_euclid-size n (negsuc b) h = absurd (omega (arith, ints))
 
 -- the two inequalities of a floor over a positive divisor
 pub IsFloor-over_positive : (n d k : ℤ) → pos 0 <ℤ d → (k *ℤ d) ≤ℤ n → n <ℤ ((k +ℤ pos 1) *ℤ d) → IsFloor n d k

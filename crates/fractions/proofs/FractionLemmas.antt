@@ -6,7 +6,7 @@ use Rattle.std.specs.Prelude.{unsigned_abs, int_div, int_rem}
 use Rattle.std.specs.Int.{IsGcd}
 use Rattle.std.proofs.lemmas.Int.{ints, unsigned_abs-mul, quot-rem}
 use Rattle.fractions.specs.Fraction.{Fraction, IsReduced, IsQuotient}
-use Rattle.fractions.proofs.Integers.{mul_assoc}
+use Rattle.whole_numbers.proofs.Products.{mul_assoc}
 
 -- what two numbers are times their greatest common divisor has no common divisor but 1
 pub IsGcd-cancel : (a b g : ℕ) → 0 < g → IsGcd (a * g) (b * g) g → IsGcd a b 1
@@ -55,14 +55,6 @@ int_div-exact n by h =
     let none : int_rem n by ≡ pos 0 = int_rem-exact n by h in
     let split = quot-rem n by in
     omega (arith, ints, none, split)
-
--- the product of two positive numbers is positive
-pub mul-positive : (a b : ℤ) → pos 0 <ℤ a → pos 0 <ℤ b → pos 0 <ℤ (a *ℤ b)
-mul-positive (pos (suc a)) (pos (suc b)) ha hb = omega (arith, ints)
-mul-positive (pos zero) b ha hb = absurd (omega (arith, ints))
-mul-positive (pos (suc a)) (pos zero) ha hb = absurd (omega (arith, ints))
-mul-positive (negsuc a) b ha hb = absurd (omega (arith, ints))
-mul-positive (pos (suc a)) (negsuc b) ha hb = absurd (omega (arith, ints))
 
 -- f is n / d in lowest terms, and no wider
 pub record Reduces (f : Fraction) (n d : ℤ) : Type 0 where

@@ -6,11 +6,7 @@
 // sign. A rectangle holds its left and top edges and not its right and bottom ones, and the part that two rectangles
 // share holds the points that both hold. A tick adds one to the count of steps. How large the numbers may be is
 // required of the caller, and within that no intermediate leaves 128 bits.
-// It stands on std alone.
-//
-// For the crates above, proofs/Widths.antt has the lemma on the width of a product (|a| at most m and |b| at most n
-// give |a b| at most m n) with those of a sum and a difference, and proofs/Integers.antt the laws of products of whole
-// numbers that std lacks.
+// It stands on the lemmas of whole_numbers, and on std.
 //
 // How a function counts its steps. It takes the counter last, and says by a clause of its own what it may add to it:
 //

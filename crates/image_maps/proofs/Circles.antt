@@ -1,24 +1,15 @@
 -- A point further off than the radius, across or down, is in no circle.
-use Rattle.std.proofs.Common.{ℕ, suc, ◌≡◌, ◌+◌, ◌*◌, ◌^◌, ◌<◌, ◌≤◌, ℤ, pos, ◌<ℤ◌, Bool, List, length, arith, subst, sym}
+use Rattle.std.proofs.Common.{ℕ, ◌≡◌, ◌+◌, ◌*◌, ◌^◌, ◌<◌, ◌≤◌, ℤ, pos, ◌<ℤ◌, Bool, List, length, arith, subst, sym}
 use Rattle.std.specs.Prelude.{unsigned_abs, IsTrue, ◌↔◌}
-use Rattle.std.proofs.Math.Nat.{mul-le-mul}
+use Rattle.whole_numbers.proofs.Squares.{square-above}
 use Rattle.poly_shapes.specs.Segments.{square, distance}
 use Rattle.image_maps.specs.Area.{fine, number, InCircle}
-
-square-above : (a r rest : ℕ) → r < a → a * a + rest ≤ r * r → ⊥
-square-above a r rest h within =
-    let further : suc r * suc r ≤ a * a = mul-le-mul h h in
-    absurd (omega arith)
 
 pub too_far_across : (a b r : ℕ) → r < a → square a + square b ≤ square r → ⊥
 too_far_across a b r h within = square-above a r (b * b) h within
 
 pub too_far_down : (a b r : ℕ) → r < b → square a + square b ≤ square r → ⊥
 too_far_down a b r h within = let turned : b * b + a * a ≤ r * r = omega arith in square-above b r (a * a) h turned
-
--- the squares of distances up to 2^26 leave room in 128 bits
-pub square-room : (a r : ℕ) → a ≤ r → r ≤ 2 ^ 26 → a * a ≤ 2 ^ 52
-square-room a r h small = let near : a ≤ 2 ^ 26 = omega arith in mul-le-mul near near
 
 -- the test of a circle by what was measured
 pub in_circle-by : (numbers : List ℤ) (x y : ℤ) (across down radius : ℕ) (r : Bool)

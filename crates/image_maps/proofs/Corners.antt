@@ -4,7 +4,7 @@ use Rattle.std.specs.Prelude.{nat_le, ◌↔◌}
 use Rattle.std.proofs.lemmas.Bool.Decides.{nat_tests}
 use Rattle.std.specs.List.{All}
 use Rattle.std.proofs.lemmas.Int.{ints}
-use Rattle.std.proofs.lemmas.List.{at_drop_more, take_all}
+use Rattle.std.proofs.lemmas.List.{append-nil, at_drop_more}
 use Rattle.poly_shapes.specs.declared.point.Point.{Point}
 use Rattle.poly_shapes.specs.declared.segment.Segment.{Segment}
 use Rattle.poly_shapes.specs.declared.point.FillRule.TheVariants.{EvenOdd}
@@ -58,12 +58,8 @@ in_twos-placed (a ∷ b ∷ numbers) all zero d h = corner-placed a b (all 0 a (
 in_twos-placed (a ∷ b ∷ numbers) all (suc k) d h =
     in_twos-placed numbers (λ i e l. all (suc (suc i)) e (omega arith)) k d (omega arith)
 
-nil-right : (points : List Point) → points ++ [] ≡ points
-nil-right [] = refl
-nil-right (p ∷ points) = ap (λ rest. p ∷ rest) (nil-right points)
-
 pub none_more : (done left all : List Point) → left ≡ [] → done ++ left ≡ all → done ≡ all
-none_more done left all none whole = sym (nil-right done) ∙ ap (λ rest. done ++ rest) (sym none) ∙ whole
+none_more done left all none whole = sym (append-nil done) ∙ ap (λ rest. done ++ rest) (sym none) ∙ whole
 
 pub corners-few : (kind : AreaKind) (numbers : List ℤ) → 2 * length (corners kind numbers) ≤ length numbers
 corners-few Rect numbers = omega arith
@@ -87,30 +83,3 @@ corners-placed Poly numbers all = placed_by (nat_le 6 (length numbers)) numbers 
     placed_by true numbers all = in_twos-placed numbers all
     placed_by false numbers all = no_points
 corners-placed Default numbers all = no_points
-
--- the edges of one closed subpath are its ring
-segments_nil : (segments : List Segment) → segments ++ [] ≡ segments
-segments_nil [] = refl
-segments_nil (s ∷ segments) = ap (λ rest. s ∷ rest) (segments_nil segments)
-
-edges-ring : (points : List Point) → edges (ring_of points) ≡ ring points
-edges-ring points =
-    let whole : points_of points (record { first = 0; count = length points; closed = true }) ≡ points =
-    take_all (0 + length points - 0) points (omega arith) in
-    segments_nil (ring (points_of points (record { first = 0; count = length points; closed = true }))) ∙ ap ring whole
-
--- the even-odd fill of the corners is what a polygon covers
-pub polygon_fill : (numbers : List ℤ) (x y : ℤ) → Fills EvenOdd (edges (outline_of Poly numbers)) x y ↔ InPoly numbers x y
-polygon_fill numbers x y = by_count (nat_le 6 (length numbers)) (grind (arith, nat_tests)) (grind (arith, nat_tests))
-  where
-    by_count : (enough : Bool) → (enough ≡ true → 6 ≤ length numbers) → (6 ≤ length numbers → enough ≡ true)
-        → Fills EvenOdd (edges (ring_of (cond enough (in_twos numbers) []))) x y ↔ InPoly numbers x y
-    by_count true sound complete =
-        let ring_edges = edges-ring (in_twos numbers) in (
-          λ f. record { enough = sound refl; inside = subst (λ (e : List Segment). Fills EvenOdd e x y) ring_edges f },
-          λ h. subst (λ (e : List Segment). Fills EvenOdd e x y) (sym ring_edges) h.inside,
-        )
-    by_count false sound complete = (
-      λ f. let no : ⊥ = cc in absurd no,
-      λ h. let e = complete h.enough in let no : ⊥ = cc in absurd no,
-    )

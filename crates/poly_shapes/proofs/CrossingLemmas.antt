@@ -5,7 +5,7 @@ use Rattle.std.proofs.Math.IntN.{*ℤ_comm}
 use Rattle.poly_shapes.specs.declared.segment.Segment.{Segment}
 use Rattle.poly_shapes.specs.Segments.{across}
 use Rattle.poly_shapes.specs.Fill.{goes_down, crosses_down, crosses_up, edge_winding}
-use Rattle.poly_shapes.proofs.Integers.{le-mul, lt-mul, neg_difference-mul}
+use Rattle.whole_numbers.proofs.Products.{le-mul, lt-mul, neg_difference-mul}
 use Rattle.poly_shapes.proofs.TurnedLemmas.{turned, crosses_down-turned, edge_winding-turned}
 
 -- the tests of two numbers

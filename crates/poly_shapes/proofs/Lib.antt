@@ -3,7 +3,6 @@ pub mod FillLemmas
 pub mod OutlineLemmas
 pub mod ExtentLemmas
 pub mod StrokeLemmas
-pub mod Integers
 pub mod TurnedLemmas
 pub mod CrossingLemmas
 pub mod RectangleLemmas

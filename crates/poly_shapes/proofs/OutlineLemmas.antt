@@ -36,10 +36,6 @@ tiled-within here there (sub ∷ subs) zero d tiled h =
 tiled-within here there (sub ∷ subs) (suc i) d tiled h =
     tiled-within (here + sub.count) there subs i d tiled.1 (omega arith)
 
-pub points_of-placed : (points : List Point) (sub : Sub) → All IsPlaced points → All IsPlaced (points_of points sub)
-points_of-placed points sub placed =
-    All-take IsPlaced (sub.first + sub.count - sub.first) (drop sub.first points) (All-drop IsPlaced sub.first points placed)
-
 pub points_of-few : (points : List Point) (sub : Sub) → length (points_of points sub) ≤ sub.count
 points_of-few points sub = simp (length-take, length-drop) (omega arith)
 

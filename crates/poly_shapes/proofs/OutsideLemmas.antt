@@ -17,7 +17,7 @@ use Rattle.poly_shapes.specs.Outline.{points_of, edges_of}
 use Rattle.poly_shapes.specs.Extent.{bounds_of, Holds}
 use Rattle.poly_shapes.specs.Fill.{crosses_down, crosses_up, winding, crossings, Fills}
 use Rattle.poly_shapes.proofs.ExtentLemmas.{HoldsPoint, bounds_of-holds}
-use Rattle.poly_shapes.proofs.TurnedLemmas.{last_point-cons, not_both}
+use Rattle.poly_shapes.proofs.TurnedLemmas.{last_point-cons, last_point-there, not_both}
 use Rattle.poly_shapes.proofs.OutlineLemmas.{winding-append}
 use Rattle.poly_shapes.proofs.CrossingLemmas.{IsNotCrossed, winding-not_crossed, not_crossed-above, not_crossed-below, not_crossed-right, reached, winding-left}
 
@@ -36,10 +36,6 @@ winding-path Q x y apart a (b ∷ points) first each =
     let one = winding-not_crossed (segment a b) x y (apart a b first next) in
     let rest = winding-path Q x y apart b points next (λ k d h. each (suc k) d (omega arith)) in
     omega (arith, ints)
-
-last_point-there : (p : Point) (points : List Point)
-    → last_point (p ∷ points) ≡ Some (get_or (p ∷ points) (length (p ∷ points) - 1) p)
-last_point-there p points = slice_get-get_or (p ∷ points) (length (p ∷ points) - 1) p (omega arith)
 
 winding-ring : (Q : Point → Type 0) (x y : ℤ)
     (apart : (a b : Point) → Q a → Q b → IsNotCrossed (segment a b) x y)

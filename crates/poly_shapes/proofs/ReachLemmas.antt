@@ -14,7 +14,7 @@ use Rattle.poly_shapes.specs.Extent.{Holds, moved_out}
 use Rattle.poly_shapes.specs.Stroke.{is_beside, is_between_ends, is_just_before, is_just_beyond, body_holds, square_before, square_beyond, disc_holds, dot_holds, has_length}
 use Rattle.poly_shapes.proofs.ExtentLemmas.{HoldsPoint}
 use Rattle.poly_shapes.specs.Segments.{square, across, along, distance, square_length}
-use Rattle.poly_shapes.proofs.Integers.{add-mul, sub-mul, mul-sub, mul-swap, le-mul, lt-mul}
+use Rattle.whole_numbers.proofs.Products.{add-mul, sub-mul, mul-sub, mul_right_comm, le-mul, lt-mul}
 
 -- the lesser of two squares is that of the lesser number
 root-le : (m n : ℕ) → n * n ≤ m * m → n ≤ m
@@ -111,12 +111,12 @@ offset_across d d' q q' =
     let a = add-mul (d *ℤ d) (d' *ℤ d') q in
     let b = add-mul (d *ℤ q) (d' *ℤ q') d in
     let c = sub-mul (d *ℤ q') (q *ℤ d') d' in
-    let e = mul-swap d d q in
-    let f = mul-swap d' d' q in
+    let e = mul_right_comm d d q in
+    let f = mul_right_comm d' d' q in
     let g = ap (λ v. v *ℤ d') (*ℤ_comm d' q) in
-    let h = mul-swap d' q' d in
+    let h = mul_right_comm d' q' d in
     let i = ap (λ v. v *ℤ q') (*ℤ_comm d' d) in
-    let j = mul-swap d d' q' in
+    let j = mul_right_comm d d' q' in
     omega (arith, ints)
 
 offset_down : (d d' q q' : ℤ)
@@ -126,11 +126,11 @@ offset_down d d' q q' =
     let b = add-mul (d *ℤ q) (d' *ℤ q') d' in
     let turned : neg_ℤ (d *ℤ q' -ℤ q *ℤ d') ≡ q *ℤ d' -ℤ d *ℤ q' = omega (arith, ints) in
     let c = ap (λ v. v *ℤ d) turned ∙ sub-mul (q *ℤ d') (d *ℤ q') d in
-    let e = mul-swap d d q' in
-    let f = mul-swap d' d' q' in
-    let g = mul-swap d q d' in
-    let h = mul-swap d d' q in
-    let i = mul-swap q d' d in
+    let e = mul_right_comm d d q' in
+    let f = mul_right_comm d' d' q' in
+    let g = mul_right_comm d q d' in
+    let h = mul_right_comm d d' q in
+    let i = mul_right_comm q d' d in
     let j = ap (λ v. v *ℤ d') (*ℤ_comm q d) in
     omega (arith, ints)
 
@@ -202,9 +202,6 @@ or_true false b e = inr e
 
 le-from : (a b : ℤ) → int_le a b ≡ true → a ≤ℤ b
 le-from a b e = grind (arith, ints)
-
-lt-from : (a b : ℤ) → int_lt a b ≡ true → a <ℤ b
-lt-from a b e = grind (arith, ints)
 
 nat_le-from : (a b : ℕ) → nat_le a b ≡ true → a ≤ b
 nat_le-from a b e = grind (arith, nat_tests)

@@ -8,7 +8,7 @@ use Rattle.poly_shapes.specs.Segments.{across}
 use Rattle.poly_shapes.specs.Outline.{edges}
 use Rattle.poly_shapes.specs.Fill.{goes_down, edge_winding, winding, Fills}
 use Rattle.poly_shapes.specs.Rectangle.{point, rectangle, IsInRectangle}
-use Rattle.poly_shapes.proofs.Integers.{sub-mul, mul-above, mul-not_above}
+use Rattle.whole_numbers.proofs.Products.{sub-mul, mul-positive, mul-not_above}
 use Rattle.poly_shapes.proofs.CrossingLemmas.{lt-true, lt-false, le-true, le-false, and_not, winding-not_crossed, not_crossed-above, not_crossed-below}
 use Rattle.poly_shapes.proofs.TurnedLemmas.{edge_winding-turned}
 
@@ -33,7 +33,7 @@ across-upright a t b x y =
 down-left : (a t b x y : ℤ) → t ≤ℤ y → y <ℤ b → x <ℤ a → edge_winding (edge a t a b) x y ≡ pos 1
 down-left a t b x y p q h =
     let k : pos 0 <ℤ across (edge a t a b) x y =
-    rw (across-upright a t b x y) (mul-above (a -ℤ x) (b -ℤ t) (omega (arith, ints)) (omega (arith, ints))) in
+    rw (across-upright a t b x y) (mul-positive (a -ℤ x) (b -ℤ t) (omega (arith, ints)) (omega (arith, ints))) in
     rw (le-true t y p, lt-true y b q, lt-true (pos 0) (across (edge a t a b) x y) k) refl
 
 down-right : (a t b x y : ℤ) → t ≤ℤ y → y <ℤ b → a ≤ℤ x → edge_winding (edge a t a b) x y ≡ pos 0

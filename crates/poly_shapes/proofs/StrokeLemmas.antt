@@ -50,10 +50,3 @@ pub line_holds-first : (joined : Bool) (width : ℕ) (x y : ℤ) (s : Segment) (
     → (body_holds width x y s || (joined && disc_holds width x y s.from)) ≡ true
     → line_holds joined width x y (s ∷ lines) ≡ true
 line_holds-first joined width x y s lines e = line_holds-cons joined width x y s lines ∙ rw e refl
-
--- one step along the subpaths
-pub strokes-step : (cap : Cap) (width : ℕ) (x y : ℤ) (points : List Point) (subs : List Sub) (i : ℕ) (d : Sub) → i < length subs
-    → strokes_of cap width x y points (drop i subs)
-    ≡ (subpath_holds (get_or subs i d).closed cap width x y (points_of points (get_or subs i d))
-    || strokes_of cap width x y points (drop (i + 1) subs))
-strokes-step cap width x y points subs i d h = at_drop_more (λ rest. strokes_of cap width x y points rest) subs i d h

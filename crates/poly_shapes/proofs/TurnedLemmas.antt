@@ -8,7 +8,7 @@ use Rattle.poly_shapes.specs.declared.point.Point.{Point}
 use Rattle.poly_shapes.specs.declared.segment.Segment.{Segment}
 use Rattle.poly_shapes.specs.Segments.{across, path_from, path_back_from, last_point, ring}
 use Rattle.poly_shapes.specs.Fill.{crosses_down, crosses_up, edge_winding, edge_crossings, winding, crossings}
-use Rattle.poly_shapes.proofs.Integers.{differences-mul}
+use Rattle.whole_numbers.proofs.Products.{differences-mul}
 
 abbrev pub turned : Segment → Segment
 turned e = record { from = e.to; to = e.from }
@@ -98,7 +98,7 @@ last_point-snoc [] p = refl
 last_point-snoc (q ∷ []) p = last_point-cons q p []
 last_point-snoc (q ∷ next ∷ points) p = last_point-cons q next (points ++ p ∷ []) ∙ last_point-snoc (next ∷ points) p
 
-last_point-there : (p : Point) (points : List Point)
+pub last_point-there : (p : Point) (points : List Point)
     → last_point (p ∷ points) ≡ Some (get_or (p ∷ points) (length (p ∷ points) - 1) p)
 last_point-there p points = slice_get-get_or (p ∷ points) (length (p ∷ points) - 1) p (omega arith)
 

@@ -7,21 +7,9 @@ use Rattle.std.proofs.lemmas.Nat.{mul-le}
 use Rattle.poly_shapes.specs.Segments.{distance}
 use Rattle.poly_shapes.specs.Stroke.{is_within_half}
 
--- where |a| is at most m and |b| at most n, |a b| is at most m n
-pub width-mul : (a b : ℤ) (m n : ℕ) → unsigned_abs a ≤ m → unsigned_abs b ≤ n → unsigned_abs (a *ℤ b) ≤ m * n
-width-mul a b m n p q = rw (unsigned_abs-mul a b) (mul-le (unsigned_abs a) (unsigned_abs b) m n p q)
-
-pub width-sub : (a b : ℤ) (m n : ℕ) → unsigned_abs a ≤ m → unsigned_abs b ≤ n → unsigned_abs (a -ℤ b) ≤ m + n
-width-sub a b m n p q = omega (arith, ints)
-
 -- a number as it is read back from its bits
 abbrev pub read : ℤ → ℤ
 read z = to_z w64 (of_z w64 z)
-
-pub product-from_bits : (a b : ℤ) (m n : ℕ) → FitsSigned w64 a → FitsSigned w64 b
-    → unsigned_abs a ≤ m → unsigned_abs b ≤ n → m * n < 2 ^ 63 → read (read a *ℤ read b) ≡ a *ℤ b
-product-from_bits a b m n fa fb p q small =
-    rw (to_z-of_z w64 a fa, to_z-of_z w64 b fb) (to_z-of_z w64 (a *ℤ b) (fits_signed_mul w64 a b m n p q small))
 
 -- differences of coordinates
 pub difference-read : (a b : ℤ) → unsigned_abs a ≤ 2 ^ 28 → unsigned_abs b ≤ 2 ^ 28 → read (read a -ℤ read b) ≡ a -ℤ b

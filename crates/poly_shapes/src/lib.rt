@@ -2,7 +2,7 @@
 //
 // The answers are exact, in whole numbers. The fill is that of SVG 2 under both rules, by the winding and the crossings
 // of all edges; the stroke is that of SVG 2 under the three caps, with round joins throughout. Only a new shape takes
-// memory. The crate stands on std alone.
+// memory. The crate stands on the lemmas of whole_numbers, and on std.
 #![tactic(auto)]
 
 mod bounds;

@@ -12,26 +12,9 @@ use Rattle.svg_shapes.specs.Measures.{IsBoxMeasured}
 use Rattle.svg_shapes.specs.Boxes.{InBox}
 use Rattle.svg_shapes.specs.Shapes.{corners}
 
--- one step of the loop over the corners of boxes
-pub widened-step : (bounds : Bounds) (boxes : List FineBox) (k : ℕ) (d : FineBox) → k < length boxes
-    → fold widened bounds (flat_map corners (drop k boxes))
-    ≡ fold widened (fold widened bounds (corners (get_or boxes k d))) (flat_map corners (drop (k + 1) boxes))
-widened-step bounds boxes k d h = at_drop_more (λ rest. fold widened bounds (flat_map corners rest)) boxes k d h
-
 -- no box before a place holds the point
 abbrev pub NoneHolds : (x y : ℤ) → List FineBox → ℕ → Type 0
 NoneHolds x y boxes end = (k : ℕ) (d : FineBox) → k < end → InBox x y (get_or boxes k d) → ⊥
-
-pub none-holds-step : (x y : ℤ) (boxes : List FineBox) (end : ℕ) → end < length boxes → NoneHolds x y boxes end
-    → ((d : FineBox) → InBox x y (get_or boxes end d) → ⊥) → NoneHolds x y boxes (end + 1)
-none-holds-step x y boxes end inside before here k d h held = by_place (before_or_here k end h)
-  where
-    before_or_here : (k end : ℕ) → k < end + 1 → (k < end) ⊎ (k ≡ end)
-    before_or_here k end h = grind arith
-
-    by_place : (k < end) ⊎ (k ≡ end) → ⊥
-    by_place (inl less) = before k d less held
-    by_place (inr same) = here d (subst (λ (i : ℕ). InBox x y (get_or boxes i d)) same held)
 
 -- the corners of measured boxes lie within 2^27
 abbrev IsCornerNear : Point → Type 0

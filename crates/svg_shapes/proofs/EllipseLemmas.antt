@@ -2,6 +2,7 @@
 use Rattle.std.proofs.Common.{◌≡◌, ℕ, suc, ◌+◌, ◌*◌, ◌<◌, ◌≤◌, ℤ, pos, ◌<ℤ◌, Bool, true, false, refl, arith, subst, sym, IsTrue, ◌↔◌, unsigned_abs}
 use Rattle.std.specs.Prelude.{not}
 use Rattle.std.proofs.Math.Nat.{mul-le-mul}
+use Rattle.whole_numbers.proofs.Squares.{square-above}
 use Rattle.corner_shapes.specs.Curve.{square, distance, IsWithinEllipse}
 use Rattle.svg_shapes.specs.declared.ellipse.Ellipse.{Ellipse}
 use Rattle.svg_shapes.specs.Measures.{twice}
@@ -12,11 +13,6 @@ pub same_ellipse : {cx cx' cy cy' rx rx' ry ry' : ℤ} → cx ≡ cx' → cy ≡
     → (let one : Ellipse = record { cx = cx; cy = cy; rx = rx; ry = ry } in
     let other : Ellipse = record { cx = cx'; cy = cy'; rx = rx'; ry = ry' } in one ≡ other)
 same_ellipse e f g h = cc
-
-square-above : (m n rest : ℕ) → n < m → m * m + rest ≤ n * n → ⊥
-square-above m n rest above within =
-    let further : suc n * suc n ≤ m * m = mul-le-mul above above in
-    absurd (omega arith)
 
 -- a point further off than the radius, across or down, is in no ellipse
 pub too_far_across : (dx dy rx ry : ℕ) → rx < dx → 0 < ry → IsWithinEllipse dx dy rx ry → ⊥

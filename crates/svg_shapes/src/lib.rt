@@ -4,8 +4,8 @@
 // text, in whole fine units (1/4096 px). The answers are exact, for points from far outside a shape too. The bands of
 // rects, circles and ellipses lie between the shape grown and the shape shrunk by half the stroke's width; a side or a
 // radius of 0 disables a shape. The bounds of a shape at a stroke's width hold every point that its interior or its
-// perimeter holds. Only a copy takes memory. The crate stands on the rounded boxes of corner_shapes and the polygons of
-// poly_shapes.
+// perimeter holds. Only a copy takes memory. The crate stands on the rounded boxes of corner_shapes, the polygons of
+// poly_shapes and the lemmas of whole_numbers.
 #![tactic(auto)]
 
 mod boxes;

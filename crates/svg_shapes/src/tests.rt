@@ -703,19 +703,10 @@ fn boxes_of_a_text(rt: HostRuntime) -> Result<(), Fail> {
     Ok(())
 }
 
-// The copy of a shape has so many vertices and these bounds.
-fn assert_copied(
-    rt: &impl Abort,
-    shape: &Shape,
-    vertices: u32,
-    bounds: [i64; 4],
-) -> Result<(), OutOfMemory>
-    requires { IsMeasured shape.now }
-{
-    let copied = shape.copy()?;
-    assert_eq!(rt; copied.vertices(), vertices);
-    let [l, t, r, b] = bounds;
-    assert_eq!(rt; copied.bounds(0), Some(Bounds { l, t, r, b }));
+// The copy of a shape has just these fields, by name.
+fn assert_copied(rt: &impl Abort, alloc: Global, shape: &Shape, fields: &str) -> Result<(), Fail> {
+    let copied = format!(in alloc; "{:?}", shape.copy()?)?;
+    assert_eq!(rt; copied.as_str(), fields);
     Ok(())
 }
 
@@ -724,27 +715,48 @@ fn copies(rt: HostRuntime) -> Result<(), Fail> {
     let alloc = rt.alloc();
     let places = [(0, 0), (9, 2), (4, 7)];
     let path = Shape::Path(closed_and_open(&rt, alloc, &places, 2)?);
-    assert_copied(&rt, &path, 3, [0, 0, 9, 7])?;
     let polygon = Shape::Polygon(subpath(&rt, alloc, &places, true)?);
-    assert_copied(&rt, &polygon, 3, [0, 0, 9, 7])?;
     let polyline = Shape::Polyline(subpath(&rt, alloc, &places, false)?);
-    assert_copied(&rt, &polyline, 3, [0, 0, 9, 7])?;
     let line = Shape::Line {
         x1: 9,
         y1: 1,
         x2: 2,
         y2: 5,
     };
-    assert_copied(&rt, &line, 2, [2, 1, 9, 5])?;
-    assert_copied(&rt, &rect(1, 2, 3, 4, 5, 6), 0, [1, 2, 4, 6])?;
     let circle = Shape::Circle { cx: 1, cy: 2, r: 3 };
-    assert_copied(&rt, &circle, 0, [-2, -1, 4, 5])?;
     let ellipse = Shape::Ellipse {
         cx: 1,
         cy: 2,
         rx: 3,
         ry: 4,
     };
-    assert_copied(&rt, &ellipse, 0, [-2, -2, 4, 6])?;
+    let boxes = Shape::Boxes(FineBoxes(Vec::from_array(alloc, BOXES)?));
+    for (shape, fields) in [
+        (
+            &path,
+            "Path(Poly { points: [Point { x: 0, y: 0 }, Point { x: 9, y: 2 }, Point { x: 4, y: 7 }], subs: [Sub { first: 0, count: 2, closed: true }, Sub { first: 2, count: 1, closed: false }], bounds: Some(Bounds { l: 0, t: 0, r: 9, b: 7 }) })",
+        ),
+        (
+            &polygon,
+            "Polygon(Poly { points: [Point { x: 0, y: 0 }, Point { x: 9, y: 2 }, Point { x: 4, y: 7 }], subs: [Sub { first: 0, count: 3, closed: true }], bounds: Some(Bounds { l: 0, t: 0, r: 9, b: 7 }) })",
+        ),
+        (
+            &polyline,
+            "Polyline(Poly { points: [Point { x: 0, y: 0 }, Point { x: 9, y: 2 }, Point { x: 4, y: 7 }], subs: [Sub { first: 0, count: 3, closed: false }], bounds: Some(Bounds { l: 0, t: 0, r: 9, b: 7 }) })",
+        ),
+        (&line, "Line { x1: 9, y1: 1, x2: 2, y2: 5 }"),
+        (
+            &rect(1, 2, 3, 4, 5, 6),
+            "Rect { x: 1, y: 2, w: 3, h: 4, rx: 5, ry: 6 }",
+        ),
+        (&circle, "Circle { cx: 1, cy: 2, r: 3 }"),
+        (&ellipse, "Ellipse { cx: 1, cy: 2, rx: 3, ry: 4 }"),
+        (
+            &boxes,
+            "Boxes(FineBoxes([FineBox { x: 0, y: 0, w: 10, h: 10 }, FineBox { x: 5, y: 5, w: 10, h: 10 }, FineBox { x: 20, y: 0, w: 0, h: 10 }]))",
+        ),
+    ] {
+        assert_copied(&rt, alloc, shape, fields)?;
+    }
     Ok(())
 }

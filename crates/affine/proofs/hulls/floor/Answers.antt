@@ -1,7 +1,6 @@
 use Rattle.std.proofs.Common.{rules, arith, FitsSigned, ◌≢◌, pos}
 use Rattle.std.specs.Int.{w128}
-use Rattle.std.proofs.lemmas.Int.{ints}
-use Rattle.fractions.proofs.Widths.{from_bits}
+use Rattle.std.proofs.lemmas.Int.{ints, to_z-of_z}
 use Rattle.affine.proofs.FloorLemmas.{IsFloor-floor_of, IsFloor-unique}
 use Rattle.affine.specs.Point.{floor_of}
 use Rattle.affine.proofs.hulls.floor.Goals as goal
@@ -12,5 +11,5 @@ returns-clause-value c =
     let d = c.args.d in
     let fits : FitsSigned w128 c.floor_div.result = search rules in
     let some : c.args.d ≢ pos 0 = λ e. absurd (omega (arith, ints, e, c.requires.positive)) in
-    let floor = rw (from_bits c.args.n c.ranges.n, from_bits c.args.d c.ranges.d) at c.floor_div.ensures.floor in
-    rw (from_bits c.floor_div.result fits) (IsFloor-unique n d c.floor_div.result (floor_of n d) some floor (IsFloor-floor_of n d some))
+    let floor = rw (to_z-of_z w128 c.args.n c.ranges.n, to_z-of_z w128 c.args.d c.ranges.d) at c.floor_div.ensures.floor in
+    rw (to_z-of_z w128 c.floor_div.result fits) (IsFloor-unique n d c.floor_div.result (floor_of n d) some floor (IsFloor-floor_of n d some))

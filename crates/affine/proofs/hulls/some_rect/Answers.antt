@@ -1,7 +1,6 @@
 use Rattle.std.proofs.Common.{arith, sym, ◌<ℤ◌, FitsSigned}
-use Rattle.std.specs.Int.{w64}
+use Rattle.std.specs.Int.{w64, w128}
 use Rattle.std.proofs.lemmas.Int.{ints, to_z-of_z}
-use Rattle.fractions.proofs.Widths.{from_bits}
 use Rattle.affine.proofs.HullLemmas.{zeros_if_empty-some}
 use Rattle.affine.proofs.hulls.some_rect.Goals as goal
 
@@ -14,10 +13,10 @@ returns-then-t-b c =
     let r : FitsSigned w64 c.args.r = omega (arith, ints, c.requires.left, c.requires.right) in
     let b : FitsSigned w64 c.args.b = omega (arith, ints, c.requires.top, c.requires.bottom) in
     rw (
-      from_bits c.args.l c.ranges.l,
-      from_bits c.args.t c.ranges.t,
-      from_bits c.args.r c.ranges.r,
-      from_bits c.args.b c.ranges.b,
+      to_z-of_z w128 c.args.l c.ranges.l,
+      to_z-of_z w128 c.args.t c.ranges.t,
+      to_z-of_z w128 c.args.r c.ranges.r,
+      to_z-of_z w128 c.args.b c.ranges.b,
       to_z-of_z w64 c.args.l l,
       to_z-of_z w64 c.args.t t,
       to_z-of_z w64 c.args.r r,

@@ -1,4 +1,4 @@
-use Rattle.fractions.proofs.FractionLemmas.{mul-positive}
+use Rattle.whole_numbers.proofs.Products.{mul-positive}
 use Rattle.affine.proofs.PointLemmas.{IsSamePoint-product}
 use Rattle.affine.proofs.map.compose.Goals as goal
 

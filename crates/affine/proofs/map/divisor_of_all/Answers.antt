@@ -1,9 +1,5 @@
-use Rattle.std.proofs.Common.{rules, arith, FitsSigned}
-use Rattle.std.specs.Int.{w128}
-use Rattle.std.proofs.lemmas.Int.{ints}
-use Rattle.fractions.proofs.Widths.{from_bits}
 use Rattle.affine.specs.Map.{common_divisor}
-use Rattle.affine.proofs.Bits.{narrow}
+use Rattle.affine.proofs.Bits.{divisor-read, first_divisor-read, positive_pos}
 use Rattle.affine.proofs.MapLemmas.{common_divisor_positive}
 use Rattle.affine.proofs.map.divisor_of_all.Goals as goal
 
@@ -11,27 +7,19 @@ use Rattle.affine.proofs.map.divisor_of_all.Goals as goal
 pub returns-clause-value : goal.returns-clause-value
 unfolding common_divisor
 returns-clause-value c =
-    let f = from_bits c.args.p.now.f (narrow c.args.p.now.f (omega arith)) in
-    let q = from_bits c.args.p.now.q (narrow c.args.p.now.q (omega arith)) in
-    let of_two = rw (f, q) at c.divisor-of_two.ensures.value in
-    let fits_two : FitsSigned w128 c.divisor-of_two.result = search rules in
-    let e = from_bits c.args.p.now.e (narrow c.args.p.now.e (omega arith)) in
-    let of_three = rw (e, from_bits c.divisor-of_two.result fits_two, of_two) at c.divisor-of_three.ensures.value in
-    let fits_three : FitsSigned w128 c.divisor-of_three.result = search rules in
-    let d = from_bits c.args.p.now.d (narrow c.args.p.now.d (omega arith)) in
-    let of_four = rw (d, from_bits c.divisor-of_three.result fits_three, of_three) at c.divisor-of_four.ensures.value in
-    let fits_four : FitsSigned w128 c.divisor-of_four.result = search rules in
-    let c' = from_bits c.args.p.now.c (narrow c.args.p.now.c (omega arith)) in
-    let of_five = rw (c', from_bits c.divisor-of_four.result fits_four, of_four) at c.divisor-of_five.ensures.value in
-    let fits_five : FitsSigned w128 c.divisor-of_five.result = search rules in
-    let b = from_bits c.args.p.now.b (narrow c.args.p.now.b (omega arith)) in
-    let of_six = rw (b, from_bits c.divisor-of_five.result fits_five, of_five) at c.divisor-of_six.ensures.value in
-    let fits_six : FitsSigned w128 c.divisor-of_six.result = search rules in
-    let a = from_bits c.args.p.now.a (narrow c.args.p.now.a (omega arith)) in
-    let fits : FitsSigned w128 c.divisor.result = search rules in
-    rw (from_bits c.divisor.result fits) (rw (a, from_bits c.divisor-of_six.result fits_six, of_six) at c.divisor.ensures.value)
+    let p = c.args.p.now in
+    let size = c.requires.size in
+    let two = c.divisor-of_two in
+    let three = c.divisor-of_three in
+    let four = c.divisor-of_four in
+    let five = c.divisor-of_five in
+    let six = c.divisor-of_six in
+    let of_two = first_divisor-read p.f p.q two.result size.f size.q two.ensures.value two.ensures.size in
+    let of_three = divisor-read p.e two.result three.result _ size.e of_two three.ensures.value three.ensures.size in
+    let of_four = divisor-read p.d three.result four.result _ size.d of_three four.ensures.value four.ensures.size in
+    let of_five = divisor-read p.c four.result five.result _ size.c of_four five.ensures.value five.ensures.size in
+    let of_six = divisor-read p.b five.result six.result _ size.b of_five six.ensures.value six.ensures.size in
+    divisor-read p.a six.result c.divisor.result _ size.a of_six c.divisor.ensures.value c.divisor.ensures.size
 
 pub returns-clause-some : goal.returns-clause-some
-returns-clause-some c =
-    let some = common_divisor_positive c.args.p.now c.requires.positive in
-    rw (returns-clause-value c) (omega (arith, ints))
+returns-clause-some c = rw (returns-clause-value c) (positive_pos _ (common_divisor_positive c.args.p.now c.requires.positive))

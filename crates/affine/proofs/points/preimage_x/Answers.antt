@@ -1,20 +1,16 @@
-use Rattle.std.proofs.Common.{arith}
+use Rattle.std.proofs.Common.{◌∙◌, lit≤}
+use Rattle.std.proofs.Math.Nat.{le_trans}
 use Rattle.std.specs.Int.{w64}
 use Rattle.std.proofs.lemmas.Int.{to_z-of_z}
-use Rattle.fractions.proofs.Widths.{from_bits}
-use Rattle.affine.proofs.Bits.{narrow}
+use Rattle.affine.proofs.Bits.{AreRead-bound, narrow}
 use Rattle.affine.proofs.points.preimage_x.Goals as goal
 
 pub returns-clause-value : goal.returns-clause-value
 returns-clause-value c =
-    let q = from_bits c.args.p.now.q (narrow c.args.p.now.q (omega arith)) in
-    let e = from_bits c.args.p.now.e (narrow c.args.p.now.e (omega arith)) in
-    let f = from_bits c.args.p.now.f (narrow c.args.p.now.f (omega arith)) in
-    let d = from_bits c.args.p.now.d (narrow c.args.p.now.d (omega arith)) in
-    let c' = from_bits c.args.p.now.c (narrow c.args.p.now.c (omega arith)) in
-    let unmoved_x = rw (q, to_z-of_z w64 c.args.x c.ranges.x, e) at c.unmoved.ensures.value in
-    let unmoved_y = rw (q, to_z-of_z w64 c.args.y c.ranges.y, f) at c.unmoved-2.ensures.value in
-    let read_x = from_bits c.unmoved.result (narrow c.unmoved.result (omega arith)) in
-    let read_y = from_bits c.unmoved-2.result (narrow c.unmoved-2.result (omega arith)) in
-    let difference = rw (d, read_x, unmoved_x, c', read_y, unmoved_y) at c.difference_of_products.ensures.value in
-    rw (from_bits c.difference_of_products.result (narrow c.difference_of_products.result (omega arith))) difference
+    let parts = AreRead-bound c.args.p.now c.requires.bound in
+    let unmoved_x = rw (parts.q, to_z-of_z w64 c.args.x c.ranges.x, parts.e) at c.unmoved.ensures.value in
+    let unmoved_y = rw (parts.q, to_z-of_z w64 c.args.y c.ranges.y, parts.f) at c.unmoved-2.ensures.value in
+    let read_x = narrow c.unmoved.result (le_trans c.unmoved.ensures.size (lit≤ tt)) in
+    let read_y = narrow c.unmoved-2.result (le_trans c.unmoved-2.ensures.size (lit≤ tt)) in
+    narrow c.difference_of_products.result (le_trans c.difference_of_products.ensures.size (lit≤ tt))
+    ∙ rw (parts.d, read_x, unmoved_x, parts.c, read_y, unmoved_y) at c.difference_of_products.ensures.value

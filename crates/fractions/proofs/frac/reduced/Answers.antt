@@ -1,8 +1,8 @@
 use Rattle.std.proofs.Common.{rules, ℤ, pos, ◌<ℤ◌, ◌≤ℤ◌, to_z, of_z, FitsSigned}
 use Rattle.std.specs.Prelude.{unsigned_abs}
 use Rattle.std.specs.Int.{w128, IsGcd}
+use Rattle.std.proofs.lemmas.Int.{to_z-of_z}
 use Rattle.fractions.specs.Fraction.{Fraction}
-use Rattle.fractions.proofs.Widths.{from_bits}
 use Rattle.fractions.proofs.FractionLemmas.{gcd_positive, Reduces, Reduces-cancel}
 use Rattle.fractions.proofs.frac.reduced.Goals as goal
 
@@ -12,7 +12,7 @@ divisor_positive :
     IsGcd (unsigned_abs (to_z w128 (of_z w128 n))) (unsigned_abs (to_z w128 (of_z w128 d))) (unsigned_abs g) →
     pos 0 <ℤ to_z w128 (of_z w128 g)
 divisor_positive n d g fn fd fg hd hg greatest =
-    rw (from_bits g fg) (gcd_positive n d g hd hg (rw (from_bits n fn, from_bits d fd) at greatest))
+    rw (to_z-of_z w128 g fg) (gcd_positive n d g hd hg (rw (to_z-of_z w128 n fn, to_z-of_z w128 d fd) at greatest))
 
 pub exact_quotient-requires-clause-positive : goal.exact_quotient-requires-clause-positive
 exact_quotient-requires-clause-positive c =
@@ -22,7 +22,7 @@ exact_quotient-requires-clause-positive c =
 pub exact_quotient-requires-clause-divides : goal.exact_quotient-requires-clause-divides
 exact_quotient-requires-clause-divides c =
     let fits : FitsSigned w128 c.gcd-divisor.result = search rules in
-    rw (from_bits c.gcd-divisor.result fits) c.gcd-divisor.ensures.greatest.0
+    rw (to_z-of_z w128 c.gcd-divisor.result fits) c.gcd-divisor.ensures.greatest.0
 
 pub exact_quotient-requires-2-clause-positive : goal.exact_quotient-requires-2-clause-positive
 exact_quotient-requires-2-clause-positive c =
@@ -32,7 +32,7 @@ exact_quotient-requires-2-clause-positive c =
 pub exact_quotient-requires-2-clause-divides : goal.exact_quotient-requires-2-clause-divides
 exact_quotient-requires-2-clause-divides c =
     let fits : FitsSigned w128 c.gcd-divisor.result = search rules in
-    rw (from_bits c.gcd-divisor.result fits) c.gcd-divisor.ensures.greatest.1
+    rw (to_z-of_z w128 c.gcd-divisor.result fits) c.gcd-divisor.ensures.greatest.1
 
 -- the two quotients are the fraction in lowest terms
 answer :
@@ -42,12 +42,12 @@ answer c =
     let fits : FitsSigned w128 c.gcd-divisor.result = search rules in
     let num_fits : FitsSigned w128 c.exact_quotient.result = search rules in
     let den_fits : FitsSigned w128 c.exact_quotient-2.result = search rules in
-    let greatest = rw (from_bits c.args.n c.ranges.n, from_bits c.args.d c.ranges.d) at c.gcd-divisor.ensures.greatest in
-    let num = rw (from_bits c.gcd-divisor.result fits, from_bits c.args.n c.ranges.n) at c.exact_quotient.ensures in
-    let den = rw (from_bits c.gcd-divisor.result fits, from_bits c.args.d c.ranges.d) at c.exact_quotient-2.ensures in
+    let greatest = rw (to_z-of_z w128 c.args.n c.ranges.n, to_z-of_z w128 c.args.d c.ranges.d) at c.gcd-divisor.ensures.greatest in
+    let num = rw (to_z-of_z w128 c.gcd-divisor.result fits, to_z-of_z w128 c.args.n c.ranges.n) at c.exact_quotient.ensures in
+    let den = rw (to_z-of_z w128 c.gcd-divisor.result fits, to_z-of_z w128 c.args.d c.ranges.d) at c.exact_quotient-2.ensures in
     let f : Fraction = record { num = c.exact_quotient.result; den = c.exact_quotient-2.result } in
     let positive = gcd_positive c.args.n c.args.d c.gcd-divisor.result c.requires.positive c.gcd-divisor.ensures.not_negative greatest in
-    rw (from_bits c.exact_quotient.result num_fits, from_bits c.exact_quotient-2.result den_fits)
+    rw (to_z-of_z w128 c.exact_quotient.result num_fits, to_z-of_z w128 c.exact_quotient-2.result den_fits)
     (Reduces-cancel f c.args.n c.args.d c.gcd-divisor.result num den c.requires.positive positive greatest)
 
 pub invariant_of-result : goal.invariant_of-result

@@ -1,10 +1,11 @@
 use Rattle.std.proofs.Common.{lit<, ◌^◌}
-use Rattle.poly_shapes.proofs.Widths.{product-from_bits, width-mul}
+use Rattle.std.specs.Int.{w64}
+use Rattle.whole_numbers.proofs.Widths.{product-from_bits, width-mul}
 use Rattle.poly_shapes.proofs.segment.product.Goals as goal
 
 pub returns-clause-value : goal.returns-clause-value
 returns-clause-value c =
-    product-from_bits c.args.a c.args.b (2 ^ 27) (2 ^ 29) c.ranges.a c.ranges.b c.requires.a c.requires.b (lit< tt)
+    product-from_bits w64 c.args.a c.args.b (2 ^ 27) (2 ^ 29) c.ranges.a c.ranges.b c.requires.a c.requires.b (lit< tt)
 
 pub returns-clause-size : goal.returns-clause-size
 returns-clause-size c =

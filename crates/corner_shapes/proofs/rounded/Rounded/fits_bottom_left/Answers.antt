@@ -1,32 +1,18 @@
-use Rattle.std.proofs.Common.{◌+ℤ◌, ◌-ℤ◌, ◌<ℤ◌, ◌≤ℤ◌, FitsSigned, w64, rules}
-use mir.Syntax.{w128}
-use Rattle.std.proofs.lemmas.Int.{to_z-of_z}
-use Rattle.corner_shapes.specs.declared.radii.Radii.{Radii}
-use Rattle.corner_shapes.specs.Curve.{distance}
-use Rattle.corner_shapes.proofs.CurveLemmas.{fits_corner}
+use Rattle.std.proofs.Common.{◌+ℤ◌, ◌-ℤ◌, rules}
+use Rattle.corner_shapes.proofs.CurveLemmas.{IsAfter, IsBefore, fits_corner, found-within}
 use Rattle.corner_shapes.proofs.rounded.Rounded.fits_bottom_left.Goals as goal
 
 pub fits-requires-clause-across : goal.fits-requires-clause-across
-fits-requires-clause-across c =
-    let fits_x : FitsSigned w64 c.bottom_left-radii.result.x = search rules in
-    simp to_z-of_z at c.before-2.ensures.within
+fits-requires-clause-across c = found-within c.before-2.result c.bottom_left-radii.result.x (search rules) c.before-2.ensures.within
 
 pub fits-requires-clause-down : goal.fits-requires-clause-down
-fits-requires-clause-down c =
-    let fits_y : FitsSigned w64 c.bottom_left-radii.result.y = search rules in
-    simp to_z-of_z at c.after.ensures.within
+fits-requires-clause-down c = found-within c.after.result c.bottom_left-radii.result.y (search rules) c.after.ensures.within
 
 pub returns : goal.returns
 returns c =
-    let fits_x : FitsSigned w64 c.bottom_left-radii.result.x = search rules in
-    let fits_y : FitsSigned w64 c.bottom_left-radii.result.y = search rules in
-    let fits_across : FitsSigned w64 c.args.self.now.l = search rules in
-    let fits_down : FitsSigned w64 c.args.self.now.b = search rules in
-    let fits_point_x : FitsSigned w128 c.args.point.x = search rules in
-    let fits_point_y : FitsSigned w128 c.args.point.y = search rules in
-    let across = simp to_z-of_z at c.before-2.ensures.found in
-    let down = simp to_z-of_z at c.after.ensures.found in
-    fits_corner c.fits.result c.before-2.result c.after.result c.bottom_left-radii.result _
-    (λ (r : Radii). c.args.point.x <ℤ (c.args.self.now.l +ℤ r.x)) (λ (r : Radii). (c.args.self.now.b -ℤ r.y) ≤ℤ c.args.point.y)
-    (λ (r : Radii). distance c.args.point.x (c.args.self.now.l +ℤ r.x)) (λ (r : Radii). distance c.args.point.y (c.args.self.now.b -ℤ r.y))
-    c.bottom_left-radii.ensures c.fits.ensures across down
+    let box = c.args.self.now in
+    let point = c.args.point in
+    let made = c.bottom_left-radii.result in
+    fits_corner c.fits.result c.before-2.result c.after.result made _ box.l box.b point.x point.y IsBefore IsAfter ◌+ℤ◌ ◌-ℤ◌
+    (search rules) (search rules) (search rules) (search rules) (search rules) (search rules)
+    c.bottom_left-radii.ensures c.fits.ensures c.before-2.ensures.found c.after.ensures.found

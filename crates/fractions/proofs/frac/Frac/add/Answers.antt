@@ -1,7 +1,6 @@
 use Rattle.std.proofs.Common.{rules, arith, ◌≡◌, ◌+ℤ◌, to_z, of_z, FitsSigned}
 use Rattle.std.specs.Int.{w128}
-use Rattle.std.proofs.lemmas.Int.{ints}
-use Rattle.fractions.proofs.Widths.{from_bits}
+use Rattle.std.proofs.lemmas.Int.{ints, to_z-of_z}
 use Rattle.fractions.proofs.frac.Frac.add.Goals as goal
 
 pub overflow_add-first : goal.overflow_add-first
@@ -14,4 +13,4 @@ returns-clause-value c =
     let sum : to_z w128 (of_z w128 (to_z w128 (of_z w128 c.crosswise-first.result) +ℤ to_z w128 (of_z w128 c.crosswise-second.result))) ≡ c.crosswise-first.result +ℤ c.crosswise-second.result =
     omega (arith, ints, c.crosswise-first.ensures.size, c.crosswise-second.ensures.size) in
     let fits : FitsSigned w128 c.denominators.result = search rules in
-    rw (sum, from_bits c.denominators.result fits, c.crosswise-first.ensures.value, c.crosswise-second.ensures.value, c.denominators.ensures.value) at c.make.ensures.value
+    rw (sum, to_z-of_z w128 c.denominators.result fits, c.crosswise-first.ensures.value, c.crosswise-second.ensures.value, c.denominators.ensures.value) at c.make.ensures.value

@@ -1,7 +1,8 @@
 use Rattle.std.proofs.Common.{arith, refl, ◌∙◌, ◌-ℤ◌}
 use Rattle.std.proofs.lemmas.Int.{ints}
 use Rattle.std.proofs.Math.IntN.{*ℤ_comm}
-use Rattle.poly_shapes.proofs.Widths.{product_of_differences, difference_of_products, width-sub}
+use Rattle.whole_numbers.proofs.Widths.{width-sub}
+use Rattle.poly_shapes.proofs.Widths.{product_of_differences, difference_of_products}
 use Rattle.poly_shapes.proofs.segment.Segment.across.Goals as goal
 
 pub overflow_sub-to-2 : goal.overflow_sub-to-2
