@@ -1,5 +1,5 @@
 -- A page with another style for one node: what no fault means, and what a planned restyle makes.
-use Rattle.std.proofs.Common.{◌≡◌, ◌≤◌, ℕ, List, length, set, slice_get, Option, Some, None, IsSome, is_some, true, refl, sym, ap, ◌∙◌, arith}
+use Rattle.std.proofs.Common.{◌≡◌, ◌≤◌, ℕ, List, length, set, slice_get, Option, Some, None, IsSome, is_some, true, false, refl, sym, ap, ◌∙◌, arith}
 use Rattle.std.specs.Option.{option_map_or}
 use Rattle.computed_style.specs.declared.style.Style.{Style}
 use Rattle.box_tree.specs.declared.node.Node.{Node}

@@ -1,6 +1,5 @@
 // A restyle: its faults, its plan, and carrying it out.
 ghost use Rattle.std.specs.Prelude.{◌≡◌, ◌≢◌, Some, IsSome, IfOk, IfErr, vec_capacity};
-ghost use Rattle.computed_style.specs.declared.style.Style.{Style};
 ghost use Rattle.box_tree.specs.declared.edit.Edit.TheVariants.{Restyle};
 ghost use Rattle.box_tree.specs.declared.plan.Plan.TheVariants.{RestyleNode};
 ghost use Rattle.box_tree.specs.Edited.{IsRestyleInRange, kind_takes_style, first_fault, edited, restyled, answer_of};
@@ -17,8 +16,8 @@ use std::snapshot::Snapshot;
 
 impl Page {
     // The first fault of a restyle, whatever the style.
-    fn fault_of_restyle(&self, id: u32) -> Option<EditFault>
-        ensures { (style : Style) → result ≡ first_fault self.now.contents (Restyle id style) }
+    fn fault_of_restyle(&self, id: u32, _style: &Style) -> Option<EditFault>
+        ensures { result ≡ first_fault self.now.contents (Restyle id _style.now) }
     {
         if !self.has(id) {
             return Some(EditFault::Absent);
@@ -45,7 +44,7 @@ impl Page {
         ensures planned { IfOk result (λ plan. IsPlanned plan (Restyle id style.now) self.now) }
         ensures first_fault { IfErr result (λ why. why ≢ EditFault.OutOfMemory → first_fault self.now.contents (Restyle id style.now) ≡ Some why) }
     {
-        if let Some(fault) = self.fault_of_restyle(id) {
+        if let Some(fault) = self.fault_of_restyle(id, style) {
             return Err(fault);
         }
         Ok(Plan::RestyleNode {
