@@ -16,3 +16,4 @@ pub mod MoveLemmas
 pub mod PlaceLemmas
 pub mod BoxLemmas
 pub mod ContainingLemmas
+pub mod RestyleLemmas

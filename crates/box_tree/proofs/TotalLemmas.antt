@@ -75,6 +75,14 @@ module _ (weight : Label → ℕ) where
 
   -- another label for a node
   module _ (id : ℕ) (change : Label → Label) where
+    pub total-relabelled-same : ((n : Label) → weight (change n) ≡ weight n) → (f : Forest) → total_over weight (relabelled id change f) ≡ total_over weight f
+    total-relabelled-same same End = refl
+    total-relabelled-same same (Grow n below others) = omega (arith, by_test (n.id == id), total-relabelled-same same below, total-relabelled-same same others)
+      where
+        by_test : (b : Bool) → weight (if b then change n else n) ≡ weight n
+        by_test true = same n
+        by_test false = refl
+
     pub total-relabelled-absent : (f : Forest) → occurrences f id ≡ 0 → total_over weight (relabelled id change f) ≡ total_over weight f
     total-relabelled-absent End none = refl
     total-relabelled-absent (Grow n below others) none =

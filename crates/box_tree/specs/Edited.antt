@@ -9,13 +9,13 @@ use Rattle.computed_style.specs.declared.style.Style.{Style}
 use Rattle.box_tree.specs.declared.piece.Piece.{Piece}
 use Rattle.box_tree.specs.declared.viewport.Viewport.{Viewport}
 use Rattle.box_tree.specs.declared.edit.Edit.{Edit}
-use Rattle.box_tree.specs.declared.edit.Edit.TheVariants.{Add, Remove, Move, Place, Resize}
+use Rattle.box_tree.specs.declared.edit.Edit.TheVariants.{Add, Remove, Move, Place, Restyle, Resize}
 use Rattle.box_tree.specs.declared.edit.Done.{Done}
 use Rattle.box_tree.specs.declared.edit.Done.TheVariants.{Node as NodeAdded, Done as EditDone}
 use Rattle.box_tree.specs.declared.edit.EditFault.{EditFault}
 use Rattle.box_tree.specs.declared.edit.EditFault.TheVariants as fault
 use Rattle.box_tree.specs.Forest.{Label, Forest, End, Grow, roots_of, node_count, height_of, occurrences}
-use Rattle.box_tree.specs.Suits.{has_no_parent, kind_suits, box_count_suits, takes_place, node_suits}
+use Rattle.box_tree.specs.Suits.{has_no_parent, kind_suits, box_count_suits, takes_place, takes_style, node_suits}
 use Rattle.box_tree.specs.Totals.{box_count}
 use Rattle.box_tree.specs.Contents.{Contents, placed_of, tree_of, ancestors_of, has_id, depth_below, new_label, IsBoxInRange, IsSpotInRange, IsMaxInRange}
 
@@ -35,6 +35,11 @@ pub record IsPlaceInRange (id : ℕ) (anchor : Spot) (boxes : List Piece) (max :
   pub boxes_in_range : All IsBoxInRange boxes
   pub max_in_range : IsMaxInRange max
 
+-- the numbers of a restyle are within their limits
+pub record IsRestyleInRange (id : ℕ) (style : Style) : Type 0 where
+  pub id_in_range : IsId id
+  pub style_in_range : IsStyleInRange style
+
 -- the numbers of a resize are within their limits
 pub record IsResizeInRange (w h : ℤ) (max : Spot) : Type 0 where
   pub width : (pos 1 ≤ℤ w) × (w ≤ℤ pos (2 ^ 20))
@@ -47,6 +52,7 @@ IsInRange (Add parent at kind boxes style) = IsAddInRange boxes style
 IsInRange (Remove id) = IsId id
 IsInRange (Move id parent at) = IsId id
 IsInRange (Place id anchor boxes max) = IsPlaceInRange id anchor boxes max
+IsInRange (Restyle id style) = IsRestyleInRange id style
 IsInRange (Resize w h max) = IsResizeInRange w h max
 
 -- the trees with one more at place `at`
@@ -94,6 +100,10 @@ clamped_to max scroll = record { x = clamped max.x scroll.x; y = clamped max.y s
 abbrev pub laid_out : Spot → List Piece → Spot → Label → Label
 laid_out anchor boxes max n = record n { anchor = anchor; boxes = boxes; scroll = clamped_to max n.scroll; max = max }
 
+-- a node with this declared style in place of the one that it had
+abbrev pub restyled : Style → Label → Label
+restyled style n = record n { style = style }
+
 -- a viewport of these sides and this greatest scroll, to which its scroll is clamped
 abbrev pub resized : ℤ → ℤ → Spot → Viewport → Viewport
 resized w h max v = record { w = w; h = h; scroll = clamped_to max v.scroll; max = max }
@@ -107,6 +117,7 @@ edited page (Add parent at kind boxes style) = record page {
 edited page (Remove id) = record page { tree = taken_out id page.tree }
 edited page (Move id parent at) = record page { tree = moved page id parent at }
 edited page (Place id anchor boxes max) = record page { tree = relabelled id (laid_out anchor boxes max) page.tree }
+edited page (Restyle id style) = record page { tree = relabelled id (restyled style) page.tree }
 edited page (Resize w h max) = record page { viewport = resized w h max page.viewport }
 
 -- what it answers then
@@ -115,6 +126,7 @@ answer_of page (Add parent at kind boxes style) = NodeAdded page.next
 answer_of page (Remove id) = EditDone
 answer_of page (Move id parent at) = EditDone
 answer_of page (Place id anchor boxes max) = EditDone
+answer_of page (Restyle id style) = EditDone
 answer_of page (Resize w h max) = EditDone
 
 -- the ancestors that a child of `parent` has, from that node on up
@@ -155,6 +167,10 @@ abbrev pub kind_may_be_placed : Contents → ℕ → ℕ → Bool
 kind_may_be_placed page id count =
     option_map_or (λ p. takes_place p.label.kind && box_count_suits (has_no_parent p.above) p.label.kind count) (placed_of page id) false
 
+-- whether the node `id` has a kind that may be given another style
+abbrev pub kind_takes_style : Contents → ℕ → Bool
+kind_takes_style page id = option_map_or (λ p. takes_style p.label.kind) (placed_of page id) false
+
 -- the table of faults
 abbrev pub faults_of : Contents → Edit → List (Bool × EditFault)
 faults_of page (Add parent at kind boxes style) =
@@ -178,6 +194,10 @@ faults_of page (Place id anchor boxes max) =
     (not (has_id page id), fault.Absent)
     ∷ (not (kind_may_be_placed page id (length boxes)), fault.Kind)
     ∷ (has_too_many_boxes (length boxes) (box_count (relabelled id (laid_out anchor boxes max) page.tree)), fault.Full)
+    ∷ []
+faults_of page (Restyle id style) =
+    (not (has_id page id), fault.Absent)
+    ∷ (not (kind_takes_style page id), fault.Kind)
     ∷ []
 faults_of page (Resize w h max) = []
 

@@ -9,11 +9,11 @@ use Rattle.box_tree.specs.declared.kind.Kind.{Kind}
 use Rattle.box_tree.specs.declared.piece.Piece.{Piece}
 use Rattle.box_tree.specs.declared.node.Node.{Node}
 use Rattle.box_tree.specs.declared.edit.Edit.{Edit}
-use Rattle.box_tree.specs.declared.edit.Edit.TheVariants.{Add, Remove, Move, Place, Resize}
+use Rattle.box_tree.specs.declared.edit.Edit.TheVariants.{Add, Remove, Move, Place, Restyle, Resize}
 use Rattle.box_tree.specs.declared.plan.Plan.{Plan}
 use Rattle.box_tree.specs.declared.plan.Placement.{Placement}
 use Rattle.box_tree.specs.declared.plan.Relocation.{Relocation}
-use Rattle.box_tree.specs.declared.plan.Plan.TheVariants.{AddNode, RemoveNodes, MoveNodes, PlaceNode, ResizeViewport}
+use Rattle.box_tree.specs.declared.plan.Plan.TheVariants.{AddNode, RemoveNodes, MoveNodes, PlaceNode, RestyleNode, ResizeViewport}
 use Rattle.box_tree.specs.Forest.{End, node_count, occurrences}
 use Rattle.box_tree.specs.Contents.{Contents, depth_below, new_label, node_at, node_of, tree_of}
 use Rattle.box_tree.specs.Edited.{IsInRange, first_fault, ancestors_below}
@@ -87,6 +87,11 @@ pub record IsPlacePlan (id : ℕ) (anchor : Spot) (boxes : List Piece) (max : Sp
   pub boxes_are : own ≡ boxes
   pub max_is : p.max ≡ max
 
+-- a node and its declared style
+pub record IsRestylePlan (id : ℕ) (style : Style) (id' : ℕ) (own : Style) : Type 0 where
+  pub id_is : id' ≡ id
+  pub style_is : own ≡ style
+
 -- the sides of the viewport and its greatest scroll
 pub record IsResizePlan (w h : ℤ) (max : Spot) (w' h' : ℤ) (max' : Spot) : Type 0 where
   pub width_is : w' ≡ w
@@ -99,6 +104,7 @@ IsPlanFor (AddNode node siblings) (Add parent at kind boxes style) page = IsAddP
 IsPlanFor (RemoveNodes parent siblings gone) (Remove id) page = IsRemovePlan page.contents id parent siblings gone
 IsPlanFor (MoveNodes place siblings children ids) (Move id parent at) page = IsMovePlan page.contents id parent at place siblings children ids
 IsPlanFor (PlaceNode placement own) (Place id anchor boxes max) page = IsPlacePlan id anchor boxes max placement own
+IsPlanFor (RestyleNode id' own) (Restyle id style) page = IsRestylePlan id style id' own
 IsPlanFor (ResizeViewport w' h' max') (Resize w h max) page = IsResizePlan w h max w' h' max'
 IsPlanFor plan edit page = ⊥
 

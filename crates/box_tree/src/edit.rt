@@ -1,7 +1,7 @@
 ghost use Rattle.std.specs.Prelude.{◌≡◌, ◌↔◌, ◌≤ℤ◌, ◌^◌, pos, IsTrue};
 ghost use Rattle.box_tree.specs.declared.edit.EditFault.TheVariants.{OutOfMemory};
 ghost use Rattle.box_tree.specs.Contents.{IsSpotInRange, IsMaxInRange};
-ghost use Rattle.box_tree.specs.Edited.{IsId, IsAddInRange, IsPlaceInRange, IsResizeInRange, IsInRange, fault_number, fault_name};
+ghost use Rattle.box_tree.specs.Edited.{IsId, IsAddInRange, IsPlaceInRange, IsRestyleInRange, IsResizeInRange, IsInRange, fault_number, fault_name};
 
 use crate::kind::Kind;
 use crate::piece::{MOST, PieceList, lies_between};
@@ -42,6 +42,11 @@ pub enum Edit {
         boxes: PieceList,
         max: Spot,
     },
+    /// The node gets this declared style in place of the one that it had.
+    Restyle {
+        id: u32,
+        style: Style,
+    },
     /// The viewport gets these sides, 1 to 2^20 units each, and this greatest scroll, 0 to 2^26 units in each coordinate, to
     /// which its scroll is clamped.
     Resize {
@@ -65,6 +70,7 @@ impl Edit {
                 boxes,
                 max,
             } => is_place_in_range(*id, *anchor, boxes, *max),
+            Edit::Restyle { id, style } => is_restyle_in_range(*id, style),
             Edit::Resize { w, h, max } => is_resize_in_range(*w, *h, *max),
         }
     }
@@ -89,6 +95,13 @@ fn is_place_in_range(id: u32, anchor: Spot, boxes: &PieceList, max: Spot) -> boo
     ensures { IsTrue result ↔ IsPlaceInRange id anchor boxes.now max }
 {
     is_id(id) && is_spot_in_range(anchor) && boxes.in_range() && is_max_in_range(max)
+}
+
+// Whether the numbers of a restyle are within their limits.
+fn is_restyle_in_range(id: u32, style: &Style) -> bool
+    ensures { IsTrue result ↔ IsRestyleInRange id style.now }
+{
+    is_id(id) && style.in_range()
 }
 
 // Whether the numbers of a resize are within their limits.

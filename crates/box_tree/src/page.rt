@@ -20,6 +20,7 @@ mod moves;
 mod places;
 mod removes;
 mod resizes;
+mod restyles;
 
 /// A page: a tree of nodes or none, seen through a viewport.
 #[derive(Drop)]
@@ -154,6 +155,7 @@ impl Page {
                 };
                 self.plan_place(placement, boxes)?
             }
+            Edit::Restyle { id, style } => self.plan_restyle(*id, style)?,
             Edit::Resize { w, h, max } => self.plan_resize(*w, *h, *max),
         };
         Ok(Prepared {
@@ -192,6 +194,7 @@ impl Page {
                 ids,
             } => self.relocate(place, siblings, children, ids, &edit),
             Plan::PlaceNode { placement, boxes } => self.place(placement, boxes, &edit),
+            Plan::RestyleNode { id, style } => self.restyle(id, style, &edit),
             Plan::ResizeViewport { w, h, max } => self.resize(w, h, max, &edit),
         };
         Undo {

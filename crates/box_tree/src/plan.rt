@@ -1,6 +1,7 @@
 use crate::edit::{Done, Edit};
 use crate::node::{Boxes, IdList, Node};
 use crate::page::Page;
+use computed_style::Style;
 use fractions::Spot;
 use std::marker::Model;
 use std::snapshot::Snapshot;
@@ -54,6 +55,11 @@ pub(crate) enum Plan {
     PlaceNode {
         placement: Placement,
         boxes: Boxes,
+    },
+    /// The node and its declared style.
+    RestyleNode {
+        id: u32,
+        style: Style,
     },
     /// The sides of the viewport and its greatest scroll.
     ResizeViewport {

@@ -12,7 +12,7 @@ use Rattle.computed_style.specs.declared.style.Style.{Style}
 use Rattle.box_tree.specs.declared.kind.Kind.{Kind}
 use Rattle.box_tree.specs.declared.kind.Kind.TheVariants.{Block, Inline, InlineBlock, Image, Text}
 use Rattle.box_tree.specs.declared.piece.Piece.{Piece}
-use Rattle.box_tree.specs.declared.edit.Edit.TheVariants.{Add, Remove, Move, Place, Resize}
+use Rattle.box_tree.specs.declared.edit.Edit.TheVariants.{Add, Remove, Move, Place, Restyle, Resize}
 use Rattle.box_tree.specs.Edited.{IsInRange}
 use Rattle.box_tree.specs.Contents.{IsWithin}
 use Rattle.script_lines.specs.Numbers.{◌>>=◌, number_within, coordinate, side, number_to, is_array_of, is_object_of}
@@ -146,6 +146,16 @@ place_fields d = do
 unfoldable pub place_of : Data → Option Command
 place_of d = if is_object_of 5 d then place_fields d else None
 
+abbrev pub restyle_fields : Data → Option Command
+restyle_fields d = do
+  id ← get (codes "id") d >>= id_of
+  style ← get (codes "style") d >>= style_of
+  Some (Edit (Restyle id style))
+
+-- the row of `style`, its keys in any order and no other key
+unfoldable pub restyle_of : Data → Option Command
+restyle_of d = if is_object_of 3 d then restyle_fields d else None
+
 abbrev pub resize_fields : Data → Option Command
 resize_fields d = do
   w ← get (codes "w") d >>= viewport_side
@@ -181,6 +191,7 @@ row_named op d =
     else if bytes_eq op (codes "remove") then remove_of d
     else if bytes_eq op (codes "move") then move_of d
     else if bytes_eq op (codes "place") then place_of d
+    else if bytes_eq op (codes "style") then restyle_of d
     else if bytes_eq op (codes "resize") then resize_of d
     else if bytes_eq op (codes "hit") then hit_of d
     else if bytes_eq op (codes "top") then top_of d

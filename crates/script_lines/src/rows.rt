@@ -4,7 +4,7 @@ ghost use Rattle.serde_json.specs.View.{view};
 ghost use Rattle.computed_style.specs.Ranges.{IsStyleInRange};
 ghost use Rattle.box_tree.specs.Contents.{IsSpotInRange, IsMaxInRange, IsWithin};
 ghost use Rattle.box_tree.specs.Edited.{IsId};
-ghost use Rattle.script_lines.specs.Command.{new_node, add_of, remove_of, move_of, layout, place_of, resize_of, point_of, hit_of, top_of, command_reading, IsAskable};
+ghost use Rattle.script_lines.specs.Command.{new_node, add_of, remove_of, move_of, layout, place_of, restyle_of, resize_of, point_of, hit_of, top_of, command_reading, IsAskable};
 
 use crate::command::Command;
 use crate::style::style_from;
@@ -116,6 +116,19 @@ fn layout_from(value: &Value) -> Option<(u32, Spot, Spot)>
     Some((id, anchor, max))
 }
 
+#[tactic(auto, unfolding(crate::specs::Command::restyle_of))]
+fn restyle_from(alloc: Global, value: &Value) -> Option<Command>
+    ensures value { result ≡ restyle_of (view value.now) }
+    ensures in_range { IfSome result IsAskable }
+{
+    if !is_object_of(value, 3) {
+        return None;
+    }
+    let id = id_from(value.get("id"))?;
+    let style = style_from(alloc, value.get("style"))?;
+    Some(Command::Edit(Edit::Restyle { id, style }))
+}
+
 #[tactic(auto, unfolding(crate::specs::Command::resize_of))]
 fn resize_from(value: &Value) -> Option<Command>
     ensures value { result ≡ resize_of (view value.now) }
@@ -171,6 +184,7 @@ pub fn command_from(alloc: Global, value: &Value) -> Result<Option<Command>, All
         Some("remove") => Ok(remove_from(value)),
         Some("move") => Ok(move_from(value)),
         Some("place") => place_from(alloc, value),
+        Some("style") => Ok(restyle_from(alloc, value)),
         Some("resize") => Ok(resize_from(value)),
         Some("hit") => Ok(hit_from(value)),
         Some("top") => Ok(top_from(value)),

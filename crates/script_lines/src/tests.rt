@@ -248,3 +248,24 @@ fn set_by(style: &Style) -> Set {
         style.display_block,
     )
 }
+
+#[test]
+fn a_style_is_named_by_an_id_and_an_object(rt: HostRuntime) -> Result<(), Fail> {
+    let alloc = rt.alloc();
+    let line = br#"{"style":{"float":"left","z":-1},"id":4294967295,"op":"style"}"#;
+    let Command::Edit(Edit::Restyle { id, style }) = command_of(alloc, line)? else {
+        return Ok(assert!(rt; false));
+    };
+    assert_eq!(rt; id, 4294967295);
+    assert!(rt; style.floats && style.z == Some(-1));
+    for line in [
+        br#"{"op":"style","id":0,"style":{}}"#.as_slice(),
+        br#"{"op":"style","id":4294967296,"style":{}}"#.as_slice(),
+        br#"{"op":"style","id":1}"#.as_slice(),
+        br#"{"op":"style","id":1,"style":{},"at":0}"#.as_slice(),
+        br#"{"op":"style","id":1,"style":{"color":0}}"#.as_slice(),
+    ] {
+        assert_fault(&rt, alloc, line, LineFault::Command);
+    }
+    Ok(())
+}

@@ -1,4 +1,7 @@
 // What suits which kind of node.
+ghost use Rattle.std.specs.Prelude.{◌≡◌, ◌<◌, IsTrue};
+ghost use Rattle.box_tree.specs.Contents.{has_id};
+
 use super::*;
 use computed_style::Position;
 
@@ -245,6 +248,8 @@ fn ids_are_from_1_on(rt: HostRuntime) -> Result<(), Fail> {
             max: ORIGIN,
         };
         assert_eq!(rt; place.in_range(), in_range);
+        let style = Style::new(alloc);
+        assert_eq!(rt; Edit::Restyle { id, style }.in_range(), in_range);
     }
     let add = Edit::Add {
         parent: 0,
@@ -314,5 +319,63 @@ fn a_page_has_at_most_262_144_boxes(rt: HostRuntime) -> Result<(), Fail> {
     assert_eq!(rt; answer(&rt, &mut page, &Edit::Remove { id: 2 }), Ok(0));
     assert_eq!(rt; answer(&rt, &mut page, &full), Ok(259));
     assert_eq!(rt; answer(&rt, &mut page, &rest), Err(Some(10)));
+    Ok(())
+}
+
+// The whole style of a node.
+fn style_with<L: Ledger>(page: &Page, id: u32, blank: Blank) -> (Position, bool, Option<i32>)
+    requires there { IsTrue (has_id page.now.contents id) }
+    requires name { blank.name ≡ L.name }
+    requires parts { blank.parts ≡ L.parts }
+    requires some_parts { 0 < blank.parts }
+{
+    let mut steps = Steps::<L>::new(blank);
+    let style = &page.node(id, &mut steps).style;
+    (style.position, style.floats, style.z)
+}
+
+#[test]
+fn a_restyle_replaces_the_whole_style(rt: HostRuntime) -> Result<(), Fail> {
+    let alloc = rt.alloc();
+    let mut page = one_of_each(&rt, alloc)?;
+    for (id, style, expected, seen) in [
+        (
+            5,
+            Style {
+                floats: true,
+                ..Style::new(alloc)
+            },
+            Ok(0),
+            (Position::Static, true, None),
+        ),
+        (
+            5,
+            Style {
+                position: Position::Relative,
+                z: Some(-3),
+                ..Style::new(alloc)
+            },
+            Ok(0),
+            (Position::Relative, false, Some(-3)),
+        ),
+        (
+            6,
+            Style::new(alloc),
+            Err(Some(6)),
+            (Position::Relative, false, Some(-3)),
+        ),
+        (
+            7,
+            Style::new(alloc),
+            Err(Some(4)),
+            (Position::Relative, false, Some(-3)),
+        ),
+        (5, Style::new(alloc), Ok(0), (Position::Static, false, None)),
+    ] {
+        let edit = Edit::Restyle { id, style };
+        assert_eq!(rt; answer(&rt, &mut page, &edit), expected, "{edit:?}");
+        assert!(rt; page.has(5));
+        assert_eq!(rt; style_with::<Brand>(&page, 5, Blank::new(1)), seen, "after {edit:?}");
+    }
     Ok(())
 }
