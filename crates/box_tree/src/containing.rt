@@ -84,3 +84,6 @@ fn outermost(position: Position) -> Holder
         Position::Fixed => Holder::Viewport,
     }
 }
+
+#[cfg(test)]
+mod tests;

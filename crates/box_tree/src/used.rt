@@ -200,3 +200,6 @@ fn has_transform(node: &Node) -> bool
 {
     !node.style.transform.0.is_empty()
 }
+
+#[cfg(test)]
+mod tests;

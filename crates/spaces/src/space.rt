@@ -164,3 +164,6 @@ fn point_in(around: &Translation, x: i64, y: i64) -> FinePoint
         y: 64 * (i128::from(y) - around.y),
     }
 }
+
+#[cfg(test)]
+mod tests;

@@ -3,7 +3,7 @@ ghost use Rattle.box_tree.specs.Contents.{IsWithin};
 
 use super::*;
 use box_tree::{Edit, Kind, Piece, PieceList};
-use computed_style::Style;
+use computed_style::{Position, Style};
 use fractions::{Blank, Brand, Spot};
 use std::process::Abort;
 use std::test::Fail;
@@ -218,6 +218,82 @@ fn the_edge_of_a_resized_viewport_is_inside(rt: HostRuntime) -> Result<(), Fail>
             (101, 80, &[]),
             (100, 81, &[]),
             (-1, 0, &[]),
+        ],
+        Blank::new(1),
+    )
+}
+
+// An add of a node with a position and borders.
+fn placed(
+    alloc: Global,
+    parent: u32,
+    at: u32,
+    kind: Kind,
+    position: Position,
+    border: [i64; 4],
+    sides: &[(i64, i64, i64, i64)],
+) -> Result<Edit, Fail> {
+    let mut style = Style::new(alloc);
+    style.position = position;
+    style.border = border;
+    Ok(Edit::Add {
+        parent,
+        at,
+        kind,
+        boxes: boxes_of(alloc, sides)?,
+        style,
+    })
+}
+
+#[test]
+fn a_text_is_hit_as_its_parent_and_borders_move_what_is_inside(
+    rt: HostRuntime,
+) -> Result<(), Fail> {
+    let alloc = rt.alloc();
+    let none = [0, 0, 0, 0];
+    let sides = [(5, 5, 20, 10)];
+    let edits = vec![in alloc;
+        placed(
+            alloc,
+            0,
+            0,
+            Kind::Block,
+            Position::Static,
+            [0, 0, 0, 10],
+            &[(0, 0, 100, 100)]
+        )?,
+        placed(
+            alloc,
+            1,
+            0,
+            Kind::Inline,
+            Position::Relative,
+            [1, 0, 0, 1],
+            &sides
+        )?,
+        placed(alloc, 2, 0, Kind::Text, Position::Static, none, &sides)?,
+        placed(
+            alloc,
+            2,
+            1,
+            Kind::Block,
+            Position::Absolute,
+            none,
+            &[(0, 0, 4, 4)]
+        )?,
+    ]?;
+    compare::<Brand>(
+        &rt,
+        alloc,
+        &edits,
+        &[
+            (14, 5, &[1]),
+            (15, 5, &[2, 1]),
+            (16, 6, &[4, 2, 1]),
+            (19, 9, &[4, 2, 1]),
+            (20, 6, &[2, 1]),
+            (34, 14, &[2, 1]),
+            (35, 14, &[1]),
         ],
         Blank::new(1),
     )
