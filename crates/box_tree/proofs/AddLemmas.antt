@@ -1,6 +1,6 @@
 -- The page with a node more: what no fault means, that it is valid, and that it is what the nodes then mean.
 use Rattle.std.proofs.Common.{◌≡◌, ◌≢◌, ◌⊎◌, ℕ, zero, suc, ◌+◌, ◌<◌, ◌≤◌, ◌==◌, List, [], ◌∷◌, ◌++◌, length, get_or, set, slice_get, Option, Some, None, is_some, true, false, Bool, if◌then◌else◌, not, refl, sym, ap, ◌∙◌, subst, inl, inr, arith}
-use Rattle.std.specs.Prelude.{All, ◌||◌}
+use Rattle.std.specs.Prelude.{◌&&◌, ◌||◌}
 use Rattle.std.specs.Option.{option_or, option_map, option_map_or}
 use Rattle.std.specs.List.{insert}
 use Rattle.std.proofs.lemmas.Bool.{cases_lt, cases_eq}
@@ -12,14 +12,17 @@ use Rattle.box_tree.specs.declared.node.Node.{Node}
 use Rattle.box_tree.specs.declared.edit.Edit.TheVariants.{Add}
 use Rattle.box_tree.specs.declared.edit.EditFault.{EditFault}
 use Rattle.box_tree.specs.Forest.{Label, End, node_count, occurrences}
-use Rattle.box_tree.specs.Contents.{Contents, node_at, node_of, has_id, depth_below, new_label, boxes_suit, IsBoxInRange, IsSuited, IsGiven, IsValid}
-use Rattle.box_tree.specs.Edited.{first_of, faults_of, first_fault, put_below, ancestors_below, child_count}
+use Rattle.box_tree.specs.Contents.{Contents, node_at, node_of, has_id, depth_below, new_label, IsSuited, IsGiven, IsValid}
+use Rattle.box_tree.specs.Suits.{has_no_parent, kind_suits, box_count_suits, style_suits}
+use Rattle.box_tree.specs.Totals.{box_count}
+use Rattle.box_tree.specs.Edited.{IsAddInRange, first_of, faults_of, first_fault, put_below, ancestors_below, child_count}
 use Rattle.box_tree.specs.Kept.{IsKept}
 use Rattle.box_tree.proofs.ForestLemmas.{single, node_in, with_child, placed_in-absent, roots-put_below, occurrences-put_below, node_count-put_below, node_in-put_below, node_in-absent}
 use Rattle.box_tree.proofs.KeptPages.{unscrolled}
 use Rattle.box_tree.proofs.KeptLemmas.{node_with-at, node_with-push, node_with-set, rising-set, rising-push, id_at-set}
 use Rattle.std.proofs.Common.{length-append}
 use Rattle.std.proofs.Math.ListN.{length-set}
+use Rattle.box_tree.proofs.TotalLemmas.{total-put_below}
 use Rattle.box_tree.proofs.PutLemmas.{given-absent, each-put_below, each-map, height-put_below}
 use mathlib.Core.Bool.{false≢true}
 
@@ -34,35 +37,50 @@ none_holds ((false, why) ∷ others) none = (refl, none_holds others none)
 none_holds ((true, why) ∷ others) none = absurd cc
 
 -- an add without a fault
-pub record MayAdd (page : Contents) (parent at : ℕ) (boxes : List Piece) : Type 0 where
+pub record MayAdd (page : Contents) (parent at : ℕ) (kind : Kind) (style : Style) (boxes : List Piece) : Type 0 where
   pub present : (parent ≡ 0) ⊎ (has_id page parent ≡ true)
   pub root : parent ≡ 0 → node_count page.tree ≡ 0
-  pub suits : boxes_suit (ancestors_below page parent) boxes ≡ true
+  pub kind_fits : kind_suits (ancestors_below page parent) kind ≡ true
+  pub style_fits : style_suits kind style ≡ true
+  pub count_fits : box_count_suits (has_no_parent (ancestors_below page parent)) kind (length boxes) ≡ true
   pub place : at ≤ child_count page parent
   pub depth : depth_below (ancestors_below page parent) ≤ 256
   pub nodes : node_count page.tree < 65536
   pub next : page.next ≤ 1048576
+  pub few : length boxes ≤ 1024
+  pub total : length boxes + box_count page.tree ≤ 262144
 
-pub may_add : (page : Contents) (parent at : ℕ) (kind : Kind) (style : Style) (boxes : List Piece) → first_fault page (Add parent at kind boxes style) ≡ None → MayAdd page parent at boxes
+-- two or three tests hold where they hold together
+pub both_true : (a b : Bool) → (a && b) ≡ true → (a ≡ true) × (b ≡ true)
+both_true true b is = (refl, is)
+both_true false b is = absurd cc
+
+pub not_false : (b : Bool) → not b ≡ false → b ≡ true
+not_false true is = refl
+not_false false is = absurd cc
+
+pub may_add : (page : Contents) (parent at : ℕ) (kind : Kind) (style : Style) (boxes : List Piece) → first_fault page (Add parent at kind boxes style) ≡ None → MayAdd page parent at kind style boxes
 may_add page parent at kind style boxes none =
     let tests = none_holds (faults_of page (Add parent at kind boxes style)) none in
+    let suits = both_true _ _ (not_false _ tests.1.1.0) in
+    let suits' = both_true _ _ suits.1 in
     record {
       present = elim (cases_eq parent 0) [
         | inl none_named ↦ inl none_named
         | inr other ↦ inr (present_in (has_id page parent) tests.0 other)
       ];
       root = λ is. grind (arith, nat_tests, tests.1.0);
-      suits = not_false (boxes_suit (ancestors_below page parent) boxes) tests.1.1.0;
+      kind_fits = suits.0;
+      style_fits = suits'.0;
+      count_fits = suits'.1;
       place = grind (arith, nat_tests, tests.1.1.1.0);
       depth = grind (arith, nat_tests, tests.1.1.1.1.0);
       nodes = grind (arith, nat_tests, tests.1.1.1.1.1.0);
       next = grind (arith, nat_tests, tests.1.1.1.1.1.0);
+      few = grind (arith, nat_tests, tests.1.1.1.1.1.0);
+      total = grind (arith, nat_tests, tests.1.1.1.1.1.0);
     }
   where
-    not_false : (b : Bool) → not b ≡ false → b ≡ true
-    not_false true is = refl
-    not_false false is = absurd cc
-
     present_in : (has : Bool) → not (parent == 0 || has) ≡ false → parent ≢ 0 → has ≡ true
     present_in true is other = refl
     present_in false is other = absurd (grind (arith, nat_tests))
@@ -78,7 +96,7 @@ once_there page id valid there = elim (cases_lt 0 (occurrences page.tree id)) [
 pub ancestors_below-none : (page : Contents) → IsValid page → ancestors_below page 0 ≡ []
 ancestors_below-none page valid = ap (λ p. option_map_or (λ q. q.label ∷ q.above) p []) (placed_in-absent page.tree [] 0 (given-absent page.tree [] page.next 0 valid.given (inl refl)))
 
-module _ (page : Contents) (valid : IsValid page) (parent at : ℕ) (kind : Kind) (style : Style) (boxes : List Piece) (in_range : All IsBoxInRange boxes) (may : MayAdd page parent at boxes) where
+module _ (page : Contents) (valid : IsValid page) (parent at : ℕ) (kind : Kind) (style : Style) (boxes : List Piece) (in_range : IsAddInRange boxes style) (may : MayAdd page parent at kind style boxes) where
   abbrev label : Label
   label = new_label page.next kind style boxes
 
@@ -91,8 +109,12 @@ module _ (page : Contents) (valid : IsValid page) (parent at : ℕ) (kind : Kind
 
   new_suited : IsSuited (ancestors_below page parent) label
   new_suited = record {
-    boxes = may.suits;
-    in_range = in_range;
+    kind = may.kind_fits;
+    boxes = may.count_fits;
+    style = may.style_fits;
+    style_in_range = in_range.style_in_range;
+    box_count = may.few;
+    in_range = in_range.boxes_in_range;
     anchor = record { x = (omega arith, omega arith); y = (omega arith, omega arith) };
     scroll = unscrolled;
   }
@@ -106,6 +128,7 @@ module _ (page : Contents) (valid : IsValid page) (parent at : ℕ) (kind : Kind
     suited = (subst (λ above. IsSuited above label) (ap (ancestors_below page) none_named ∙ ancestors_below-none page valid) new_suited, (tt, tt));
     depth = omega arith;
     nodes = omega arith;
+    boxes = omega (arith, may.total);
     next = (omega arith, omega (arith, may.next));
     viewport = valid.viewport;
   }
@@ -121,6 +144,7 @@ module _ (page : Contents) (valid : IsValid page) (parent at : ℕ) (kind : Kind
         suited = each-put_below IsSuited page.tree [] parent at label End once valid.suited (new_suited, (tt, tt));
         depth = omega (arith, height-put_below page.tree [] parent at label End 256 once (omega (arith, valid.depth)) (omega (arith, may.depth)));
         nodes = rw (node_count-put_below page.tree parent at label End once) (omega (arith, may.nodes));
+        boxes = rw (total-put_below (λ n. length n.boxes) page.tree parent at label End once) (omega (arith, may.total));
         next = (omega arith, omega (arith, may.next));
         viewport = valid.viewport;
       }

@@ -41,6 +41,7 @@ empty-kept w h width height = record {
     suited = tt;
     depth = omega arith;
     nodes = omega arith;
+    boxes = omega arith;
     next = (omega arith, omega arith);
     viewport = record {
       width = width;

@@ -8,8 +8,11 @@ pub mod PlanLemmas
 pub mod PlacedLemmas
 pub mod SubtreeLemmas
 pub mod TakenLemmas
+pub mod TotalLemmas
+pub mod SuitsLemmas
 pub mod CountLemmas
 pub mod RemoveLemmas
 pub mod MoveLemmas
 pub mod PlaceLemmas
+pub mod BoxLemmas
 pub mod ContainingLemmas

@@ -13,19 +13,22 @@ use Rattle.box_tree.specs.declared.plan.Relocation.{Relocation}
 use Rattle.box_tree.specs.declared.plan.Plan.TheVariants.{MoveNodes}
 use Rattle.box_tree.specs.Forest.{Label, Forest, End, Grow, roots_of, node_count, height_of, occurrences, Placed, placed_in, EachNode}
 use Rattle.box_tree.specs.Contents.{Contents, node_at, node_of, placed_of, tree_of, has_id, parent_id, IsGiven, IsSuited, IsValid}
-use Rattle.box_tree.specs.Edited.{taken_out, put_below, moved, page_without, is_root, ancestors_below, child_count, first_fault, faults_of}
+use Rattle.box_tree.specs.Suits.{has_no_parent, kind_suits, box_count_suits}
+use Rattle.box_tree.specs.Totals.{box_count}
+use Rattle.box_tree.specs.Edited.{kind_may_move, taken_out, put_below, moved, page_without, is_root, ancestors_below, child_count, first_fault, faults_of}
 use Rattle.box_tree.specs.Kept.{node_with, IsRisingFrom, IsKept}
 use Rattle.box_tree.specs.PageState.{PageState}
 use Rattle.box_tree.specs.Planned.{ids_without, is_among, children_without, relocated, relocated_among, IsPlaceFor, IsPlanned}
 use Rattle.box_tree.proofs.ForestLemmas.{single, placed_in-head, placed_in-present, node_in, with_child, ancestors_in, if_map, or-none, node_in-cons, node_in-absent, node_in-put_below, occurrences-put_below, roots-put_below, node_count-put_below}
 use Rattle.box_tree.proofs.PutLemmas.{each-put_below, height-put_below}
 use Rattle.box_tree.proofs.KeptLemmas.{node_with-slice, node_with-replaced, rising-set, other_child}
-use Rattle.box_tree.proofs.AddLemmas.{none_holds, once_there}
+use Rattle.box_tree.proofs.AddLemmas.{none_holds, not_false, once_there}
 use Rattle.box_tree.proofs.PlacedLemmas.{page-at_places, found-at_places, AreAtPlaces, depth-placed_in, seen_at}
 use Rattle.box_tree.proofs.PlanLemmas.{MeansEdited, means_edited, id-placed_in, is_some-node_at}
 use Rattle.box_tree.proofs.SubtreeLemmas.{Head, Deeper, Beside, found_in, IsAbove, parent_above, placed-at_places}
 use Rattle.box_tree.proofs.TakenLemmas.{height-taken_out, each-taken_out, roots-taken_out, length-ids_without, place_without, placed_in-taken_out, occurrences-parted, node_count-parted}
 use Rattle.box_tree.proofs.RemoveLemmas.{node_without, other_node, placed_below}
+use Rattle.box_tree.proofs.TotalLemmas.{total-put_below, total-parted}
 use Rattle.box_tree.proofs.CountLemmas.{count-looked_up}
 use mathlib.Core.Bool.{false≢true}
 
@@ -34,6 +37,7 @@ pub record MayMove (page : Contents) (id parent at : ℕ) : Type 0 where
   pub named : parent ≢ 0
   pub parent_there : has_id page parent ≡ true
   pub child : is_root page id ≡ false
+  pub kind : kind_may_move page id parent ≡ true
   pub apart : occurrences (tree_of page id) parent ≡ 0
   pub place : at ≤ child_count (page_without page id) parent
   pub depth : length (ancestors_below page parent) + height_of (tree_of page id) ≤ 256
@@ -46,9 +50,10 @@ may_move page id parent at none =
       named = named;
       parent_there = both_there (has_id page id) (has_id page parent) tests.0 named;
       child = not_root (parent == 0) (is_root page id) tests.1.0;
-      apart = grind (arith, nat_tests, tests.1.1.0);
-      place = grind (arith, nat_tests, tests.1.1.1.0);
-      depth = grind (arith, nat_tests, tests.1.1.1.1.0);
+      kind = not_false (kind_may_move page id parent) tests.1.1.0;
+      apart = grind (arith, nat_tests, tests.1.1.1.0);
+      place = grind (arith, nat_tests, tests.1.1.1.1.0);
+      depth = grind (arith, nat_tests, tests.1.1.1.1.1.0);
     }
   where
     at_zero : (root : Bool) → (parent == 0 || root) ≡ false → parent ≡ 0 → ⊥
@@ -72,11 +77,11 @@ each-placed P (Grow n below others) above id p each found = elim (found_in n bel
   | Beside other is ↦ each-placed P others above id p each.1.1 is
 ]
 
--- what asks of the ancestors only that there are some holds below others too
-pub each-elsewhere : (P : List Label → Label → Type 0) → ((a b : Label) (above above' : List Label) (n : Label) → P (a ∷ above) n → P (b ∷ above') n) → (f : Forest) (a b : Label) (above above' : List Label) → EachNode P (a ∷ above) f → EachNode P (b ∷ above') f
-each-elsewhere P same End a b above above' each = tt
-each-elsewhere P same (Grow n below others) a b above above' each =
-    (same a b above above' n each.0, (each-elsewhere P same below n n (a ∷ above) (b ∷ above') each.1.0, each-elsewhere P same others a b above above' each.1.1))
+-- what asks only of the parent and of whether that has a parent holds below other ancestors of a node too
+pub each-elsewhere : (P : List Label → Label → Type 0) → ((m a b : Label) (above above' : List Label) (n : Label) → P (m ∷ a ∷ above) n → P (m ∷ b ∷ above') n) → (f : Forest) (m a b : Label) (above above' : List Label) → EachNode P (m ∷ a ∷ above) f → EachNode P (m ∷ b ∷ above') f
+each-elsewhere P same End m a b above above' each = tt
+each-elsewhere P same (Grow n below others) m a b above above' each =
+    (same m a b above above' n each.0, (each-elsewhere P same below n m m (a ∷ above) (b ∷ above') each.1.0, each-elsewhere P same others m a b above above' each.1.1))
 
 -- a node that is found below these ancestors has them all
 pub above-placed_in : (f : Forest) (above : List Label) (id : ℕ) (p : Placed) → placed_in above f id ≡ Some p → length above ≤ length p.above
@@ -190,24 +195,51 @@ module _ (page : Contents) (valid : IsValid page) (id parent at : ℕ) (q : Plac
     | inr none ↦ omega (arith, parted old_parent.label.id, once_there page old_parent.label.id valid (ap is_some old_parent.found))
   ]
 
-  -- the moved tree suits its new place
-  elsewhere : (P : List Label → Label → Type 0) → ((a b : Label) (above above' : List Label) (n : Label) → P (a ∷ above) n → P (b ∷ above') n) → EachNode P [] page.tree → EachNode P (ancestors_in [] rest parent) moved_tree
-  elsewhere P same each =
-      let here = subst (λ a. EachNode P a moved_tree) old_parent.above_is (each-placed P page.tree [] id q each found) in
-      rw ancestors_are (by_place (placed_of page parent) may.parent_there here)
+  -- what holds of each node of the moved tree holds at its new place, where it holds of the moved node there
+  elsewhere : (P : List Label → Label → Type 0) → ((m a b : Label) (above above' : List Label) (n : Label) → P (m ∷ a ∷ above) n → P (m ∷ b ∷ above') n) → (P q.above q.label → P (ancestors_below page parent) q.label) → EachNode P [] page.tree → EachNode P (ancestors_in [] rest parent) moved_tree
+  elsewhere P same head each =
+      let there = each-placed P page.tree [] id q each found in
+      let here = subst (λ a. EachNode P a moved_tree) old_parent.above_is there in
+      rw ancestors_are (by_place (placed_of page parent) may.parent_there here (head there.0))
     where
-      by_place : (o : Option Placed) → is_some o ≡ true → EachNode P (old_parent.label ∷ old_parent.others) moved_tree → EachNode P (option_map_or (λ p. p.label ∷ p.above) o []) moved_tree
-      by_place None there here = absurd (false≢true there)
-      by_place (Some p) there here = each-elsewhere P same moved_tree old_parent.label p.label old_parent.others p.above here
+      by_place : (o : Option Placed) → is_some o ≡ true → EachNode P (old_parent.label ∷ old_parent.others) moved_tree → P (option_map_or (λ p. p.label ∷ p.above) o []) q.label → EachNode P (option_map_or (λ p. p.label ∷ p.above) o []) moved_tree
+      by_place None is here now = absurd (false≢true is)
+      by_place (Some p) is here now = (now, (each-elsewhere P same q.below q.label old_parent.label p.label old_parent.others p.above here.1.0, tt))
+
+  -- the moved node suits its new place: it was no root, and is none
+  suited_there : IsSuited q.above q.label → IsSuited (ancestors_below page parent) q.label
+  suited_there suited =
+      let kind_is : kind_suits (ancestors_below page parent) q.label.kind ≡ true = sym (ap (λ o. option_map_or (λ p. kind_suits (ancestors_below page parent) p.label.kind) o false) found) ∙ may.kind in
+      let was_child : has_no_parent q.above ≡ false = ap has_no_parent old_parent.above_is in
+      let is_child : has_no_parent (ancestors_below page parent) ≡ false = by_place (placed_of page parent) may.parent_there in
+      record {
+        kind = kind_is;
+        boxes = ap (λ b. box_count_suits b q.label.kind (length q.label.boxes)) (is_child ∙ sym was_child) ∙ suited.boxes;
+        style = suited.style;
+        style_in_range = suited.style_in_range;
+        box_count = suited.box_count;
+        in_range = suited.in_range;
+        anchor = suited.anchor;
+        scroll = suited.scroll;
+      }
+    where
+      by_place : (o : Option Placed) → is_some o ≡ true → has_no_parent (option_map_or (λ p. p.label ∷ p.above) o []) ≡ false
+      by_place None is = absurd (false≢true is)
+      by_place (Some p) is = refl
+
+  -- as many boxes are there as before
+  pub boxes_stay : box_count (put_below parent at q.label q.below rest) ≡ box_count page.tree
+  boxes_stay = omega (arith, total-put_below (λ n. length n.boxes) rest parent at q.label q.below once, total-parted (λ n. length n.boxes) page.tree [] id (valid.distinct id), ap box_count tree_is)
 
   valid-moved : IsValid new_page
   valid-moved = record {
     one_tree = rw (roots-put_below rest parent at q.label q.below, roots-taken_out page.tree id) (omega (arith, length-ids_without (roots_of page.tree) id, valid.one_tree));
     distinct = λ k. rw (occurrences-put_below rest parent at q.label q.below k once) (omega (arith, parted k, valid.distinct k));
-    given = each-put_below (IsGiven page.next) rest [] parent at q.label q.below once (each-taken_out (IsGiven page.next) page.tree [] id valid.given) (elsewhere (IsGiven page.next) (λ a b above above' n given. record { positive = given.positive; below_next = given.below_next }) valid.given);
-    suited = each-put_below IsSuited rest [] parent at q.label q.below once (each-taken_out IsSuited page.tree [] id valid.suited) (elsewhere IsSuited (λ a b above above' n suited. record { boxes = suited.boxes; in_range = suited.in_range; anchor = suited.anchor; scroll = suited.scroll }) valid.suited);
+    given = each-put_below (IsGiven page.next) rest [] parent at q.label q.below once (each-taken_out (IsGiven page.next) page.tree [] id valid.given) (elsewhere (IsGiven page.next) (λ m a b above above' n given. record { positive = given.positive; below_next = given.below_next }) (λ given. record { positive = given.positive; below_next = given.below_next }) valid.given);
+    suited = each-put_below IsSuited rest [] parent at q.label q.below once (each-taken_out IsSuited page.tree [] id valid.suited) (elsewhere IsSuited (λ m a b above above' n suited. record { kind = suited.kind; boxes = suited.boxes; style = suited.style; style_in_range = suited.style_in_range; box_count = suited.box_count; in_range = suited.in_range; anchor = suited.anchor; scroll = suited.scroll }) suited_there valid.suited);
     depth = omega (arith, height-put_below rest [] parent at q.label q.below 256 once (omega (arith, height-taken_out page.tree id, valid.depth)) (omega (arith, may.depth, ap (λ (a : List Label). length a) ancestors_are, ap height_of tree_is)));
     nodes = rw (node_count-put_below rest parent at q.label q.below once) (omega (arith, valid.nodes, node_count-parted page.tree [] id (valid.distinct id), ap node_count tree_is));
+    boxes = rw boxes_stay valid.boxes;
     next = valid.next;
     viewport = valid.viewport;
   }

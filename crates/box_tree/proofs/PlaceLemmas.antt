@@ -1,7 +1,7 @@
 -- A page with another label for one node, and with another viewport: what no fault means, that it is valid, and that it is
 -- what the nodes then mean.
 use Rattle.std.proofs.Common.{◌≡◌, ◌≢◌, ℕ, suc, ◌+◌, ◌==◌, ℤ, List, [], ◌∷◌, length, map, set, slice_get, Option, Some, None, IsSome, is_some, true, false, Bool, not, if◌then◌else◌, refl, sym, ap, ◌∙◌, inl, inr, arith}
-use Rattle.std.specs.Prelude.{nat_le}
+use Rattle.std.specs.Prelude.{◌≤◌, ◌&&◌}
 use Rattle.std.specs.Option.{option_or, option_map, option_map_or}
 use Rattle.std.proofs.lemmas.Bool.{cases_eq}
 use Rattle.std.proofs.lemmas.Bool.Decides.{nat_tests}
@@ -14,14 +14,17 @@ use Rattle.box_tree.specs.declared.edit.Edit.TheVariants.{Place, Resize}
 use Rattle.box_tree.specs.declared.plan.Placement.{Placement}
 use Rattle.box_tree.specs.declared.plan.Plan.TheVariants.{PlaceNode, ResizeViewport}
 use Rattle.box_tree.specs.Forest.{Label, Forest, End, Grow, roots_of, node_count, height_of, occurrences, Placed, placed_in, EachNode}
-use Rattle.box_tree.specs.Contents.{Contents, node_at, node_of, placed_of, ancestors_of, has_id, parent_id, boxes_suit, IsMaxInRange, IsScrolled, IsGiven, IsSuited, IsValid}
-use Rattle.box_tree.specs.Edited.{relabelled, clamped_to, laid_out, resized, first_fault, faults_of}
+use Rattle.box_tree.specs.Contents.{Contents, node_at, node_of, placed_of, ancestors_of, has_id, parent_id, IsMaxInRange, IsScrolled, IsGiven, IsSuited, IsValid}
+use Rattle.box_tree.specs.declared.kind.Kind.{Kind}
+use Rattle.box_tree.specs.Suits.{has_no_parent, kind_suits, box_count_suits, takes_place}
+use Rattle.box_tree.specs.Totals.{box_count}
+use Rattle.box_tree.specs.Edited.{kind_may_be_placed, relabelled, clamped_to, laid_out, resized, first_fault, faults_of}
 use Rattle.box_tree.specs.Kept.{node_with, label_of, with_label, IsKept}
 use Rattle.box_tree.specs.PageState.{PageState}
 use Rattle.box_tree.specs.Planned.{IsPlanned}
 use Rattle.box_tree.proofs.ForestLemmas.{if_map}
 use Rattle.box_tree.proofs.KeptLemmas.{node_with-slice, node_with-replaced, rising-set}
-use Rattle.box_tree.proofs.AddLemmas.{none_holds}
+use Rattle.box_tree.proofs.AddLemmas.{none_holds, both_true, not_false}
 use Rattle.box_tree.proofs.PlacedLemmas.{AreAtPlaces, page-at_places, seen_at}
 use Rattle.box_tree.proofs.PlanLemmas.{MeansEdited, means_edited, id-placed_in, is_some-node_at}
 use Rattle.std.proofs.Math.ListN.{length-set}
@@ -88,7 +91,7 @@ module _ (id : ℕ) (change : Label → Label) (keeps : (n : Label) → (change 
   each-relabelled page P Q follows (Grow n below others) above known each =
       (follows n above below known.0 each.0, (each-relabelled page P Q follows below (n ∷ above) known.1.0 each.1.0, each-relabelled page P Q follows others above known.1.1 each.1.1))
 
-  module _ (page : Contents) (valid : IsValid page) (suits : (p : Placed) → placed_of page id ≡ Some p → IsSuited p.above p.label → IsSuited p.above (change p.label)) where
+  module _ (page : Contents) (valid : IsValid page) (keeps_kind : (n : Label) → (change n).kind ≡ n.kind) (few : box_count (relabelled id change page.tree) ≤ 262144) (suits : (p : Placed) → placed_of page id ≡ Some p → IsSuited p.above p.label → IsSuited p.above (change p.label)) where
     abbrev new_page : Contents
     new_page = record page { tree = relabelled id change page.tree }
 
@@ -105,9 +108,32 @@ module _ (id : ℕ) (change : Label → Label) (keeps : (n : Label) → (change 
           rw new_is suited
     ])
       where
+        kind-new : (x : Label) → (new x).kind ≡ x.kind
+        kind-new x = by_test (x.id == id)
+          where
+            by_test : (b : Bool) → (if b then change x else x).kind ≡ x.kind
+            by_test true = keeps_kind x
+            by_test false = refl
+
+        no_parent-new : (xs : List Label) → has_no_parent (map new xs) ≡ has_no_parent xs
+        no_parent-new [] = refl
+        no_parent-new (x ∷ xs) = refl
+
+        kind_suits-new : (xs : List Label) (kind : Kind) → kind_suits (map new xs) kind ≡ kind_suits xs kind
+        kind_suits-new [] kind = refl
+        kind_suits-new (x ∷ xs) kind = rw (kind-new x, no_parent-new xs) refl
+
         elsewhere : (xs : List Label) {m : Label} → IsSuited xs m → IsSuited (map new xs) m
-        elsewhere [] s = s
-        elsewhere (x ∷ xs) s = record { boxes = s.boxes; in_range = s.in_range; anchor = s.anchor; scroll = s.scroll }
+        elsewhere xs {m} s = record {
+          kind = kind_suits-new xs m.kind ∙ s.kind;
+          boxes = ap (λ b. box_count_suits b m.kind (length m.boxes)) (no_parent-new xs) ∙ s.boxes;
+          style = s.style;
+          style_in_range = s.style_in_range;
+          box_count = s.box_count;
+          in_range = s.in_range;
+          anchor = s.anchor;
+          scroll = s.scroll;
+        }
 
     valid-relabelled : IsValid new_page
     valid-relabelled = record {
@@ -117,6 +143,7 @@ module _ (id : ℕ) (change : Label → Label) (keeps : (n : Label) → (change 
       suited = each-relabelled page IsSuited IsSuited suited-new page.tree [] (page-at_places page valid) valid.suited;
       depth = rw (height-relabelled page.tree) valid.depth;
       nodes = rw (node_count-relabelled page.tree) valid.nodes;
+      boxes = few;
       next = valid.next;
       viewport = valid.viewport;
     }
@@ -169,34 +196,25 @@ scrolled-clamped max scroll within = record {
 }
 
 -- a place without a fault
-pub record MayPlace (page : Contents) (id : ℕ) (boxes : List Piece) : Type 0 where
+pub record MayPlace (page : Contents) (id : ℕ) (anchor : Spot) (boxes : List Piece) (max : Spot) : Type 0 where
   pub there : has_id page id ≡ true
-  pub suits : boxes_suit (ancestors_of page id) boxes ≡ true
+  pub suits : kind_may_be_placed page id (length boxes) ≡ true
+  pub few : length boxes ≤ 1024
+  pub total : box_count (relabelled id (laid_out anchor boxes max) page.tree) ≤ 262144
 
-pub may_place : (page : Contents) (id : ℕ) (anchor : Spot) (boxes : List Piece) (max : Spot) → first_fault page (Place id anchor boxes max) ≡ None → MayPlace page id boxes
+pub may_place : (page : Contents) (id : ℕ) (anchor : Spot) (boxes : List Piece) (max : Spot) → first_fault page (Place id anchor boxes max) ≡ None → MayPlace page id anchor boxes max
 may_place page id anchor boxes max none =
     let tests = none_holds (faults_of page (Place id anchor boxes max)) none in
-    record { there = not_false (has_id page id) tests.0; suits = not_false (boxes_suit (ancestors_of page id) boxes) tests.1.0 }
-  where
-    not_false : (b : Bool) → not b ≡ false → b ≡ true
-    not_false true is = refl
-    not_false false is = absurd cc
+    record {
+      there = not_false (has_id page id) tests.0;
+      suits = not_false (kind_may_be_placed page id (length boxes)) tests.1.0;
+      few = grind (arith, nat_tests, tests.1.1.0);
+      total = grind (arith, nat_tests, tests.1.1.0);
+    }
 
 -- what is laid out keeps its id
 keeps-laid_out : (anchor : Spot) (boxes : List Piece) (max : Spot) (n : Label) → (laid_out anchor boxes max n).id ≡ n.id
 keeps-laid_out anchor boxes max n = refl
-
--- how many boxes suit a node, by its depth
-pub boxes_suit-depth : (page : Contents) (id : ℕ) (n : Node) (boxes : List Piece) → node_of page id ≡ Some n → boxes_suit (ancestors_of page id) boxes ≡ (if n.depth == 1 then length boxes == 1 else nat_le (length boxes) 1)
-boxes_suit-depth page id n boxes seen =
-    let at = seen_at page id n seen in
-    ap (λ o. boxes_suit (option_map_or (λ p. p.above) o []) boxes) at.found
-    ∙ by_above at.place.above
-    ∙ ap (λ (m : Node). if m.depth == 1 then length boxes == 1 else nat_le (length boxes) 1) at.node_is
-  where
-    by_above : (above : List Label) → boxes_suit above boxes ≡ (if 1 + length above == 1 then length boxes == 1 else nat_le (length boxes) 1)
-    by_above [] = refl
-    by_above (parent ∷ above) = grind (arith, nat_tests)
 
 -- a planned place
 module _ (state : PageState) (nodes : List Node) (first : Option ℕ) (p : Placement) (own : List Piece) (kept : IsKept nodes first state.contents) where
@@ -215,13 +233,17 @@ module _ (state : PageState) (nodes : List Node) (first : Option ℕ) (p : Place
       let may = may_place page id anchor boxes max planned.faultless in
       let plan = planned.plan_is in
       let suits : (q : Placed) → placed_of page id ≡ Some q → IsSuited q.above q.label → IsSuited q.above (laid_out anchor boxes max q.label) = λ q found suited. record {
-        boxes = ap (λ o. boxes_suit (option_map_or (λ q. q.above) o []) boxes) (sym found) ∙ may.suits;
+        kind = suited.kind;
+        boxes = (both_true _ _ (sym (ap (λ o. option_map_or (λ p. takes_place p.label.kind && box_count_suits (has_no_parent p.above) p.label.kind (length boxes)) o false) found) ∙ may.suits)).1;
+        style = suited.style;
+        style_in_range = suited.style_in_range;
+        box_count = may.few;
         in_range = planned.in_range.boxes_in_range;
         anchor = planned.in_range.anchor_in_range;
         scroll = scrolled-clamped max q.label.scroll planned.in_range.max_in_range;
       } in
       rw (plan.anchor_is, plan.boxes_are, plan.max_is) (means_edited _ first page (Place id anchor boxes max)
-      (kept-relabelled id (laid_out anchor boxes max) (keeps-laid_out anchor boxes max) page kept.valid suits first nodes i n kept is (same ∙ plan.id_is)))
+      (kept-relabelled id (laid_out anchor boxes max) (keeps-laid_out anchor boxes max) page kept.valid (λ n. refl) may.total suits first nodes i n kept is (same ∙ plan.id_is)))
   planned-place edit i n planned is same = absurd planned.plan_is
 
 -- a planned resize: the nodes stay
@@ -238,6 +260,7 @@ planned-resize state nodes first w' h' max' (Resize w h max) kept planned =
       suited = kept.valid.suited;
       depth = kept.valid.depth;
       nodes = kept.valid.nodes;
+      boxes = kept.valid.boxes;
       next = kept.valid.next;
       viewport = record { width = range.width; height = range.height; scroll = scrolled-clamped max page.viewport.scroll range.max_in_range };
     } in

@@ -1,6 +1,5 @@
 -- A planned edit, carried out on the kept nodes, makes the edited page of them.
 use Rattle.std.proofs.Common.{◌≡◌, ◌≢◌, ◌⊎◌, ℕ, ◌+◌, ◌==◌, List, [], ◌∷◌, ◌++◌, length, set, slice_get, Option, Some, None, IsSome, is_some, true, if◌then◌else◌, refl, sym, ap, ◌∙◌, subst, inl, inr, arith}
-use Rattle.std.specs.Prelude.{is_none, nat_le}
 use mathlib.Core.Bool.{false≢true}
 use Rattle.std.specs.Option.{option_or, option_map, option_map_or}
 use Rattle.std.specs.List.{insert}
@@ -15,7 +14,7 @@ use Rattle.box_tree.specs.declared.edit.Edit.{Edit}
 use Rattle.box_tree.specs.declared.edit.Edit.TheVariants.{Add}
 use Rattle.box_tree.specs.declared.plan.Plan.TheVariants.{AddNode}
 use Rattle.box_tree.specs.Forest.{Label, Forest, End, Grow, roots_of, Placed, placed_in}
-use Rattle.box_tree.specs.Contents.{Contents, node_at, node_of, placed_of, origin, new_label, has_id, parent_id, boxes_suit, IsValid}
+use Rattle.box_tree.specs.Contents.{Contents, node_at, node_of, placed_of, origin, new_label, has_id, parent_id, IsValid}
 use Rattle.box_tree.specs.Edited.{edited, planted, put_below, ancestors_below, child_count}
 use Rattle.box_tree.specs.Kept.{node_with, page_of, IsKept}
 use Rattle.box_tree.specs.PageState.{PageState}
@@ -116,13 +115,6 @@ module _ (page : Contents) (parent : ℕ) where
       by_place : (o : Option Placed) → length (option_map_or (λ p. p.label ∷ p.above) o []) ≡ option_map_or (λ (n : Node). n.depth) (option_map node_at o) 0
       by_place None = refl
       by_place (Some p) = omega arith
-
-  pub boxes_suit-node_of : (boxes : List Piece) → boxes_suit (ancestors_below page parent) boxes ≡ (if is_none (node_of page parent) then length boxes == 1 else nat_le (length boxes) 1)
-  boxes_suit-node_of boxes = by_place (placed_of page parent)
-    where
-      by_place : (o : Option Placed) → boxes_suit (option_map_or (λ p. p.label ∷ p.above) o []) boxes ≡ (if is_none (option_map node_at o) then length boxes == 1 else nat_le (length boxes) 1)
-      by_place None = refl
-      by_place (Some p) = refl
 
 -- the node that an add makes, field by field
 pub node_is-added : (page : Contents) (parent : ℕ) (kind : Kind) (style : Style) (boxes : List Piece) (id depth : ℕ) (children : List ℕ) (own : List Piece) (declared : Style) → IsValid page → (parent ≡ 0) ⊎ (has_id page parent ≡ true) → id ≡ page.next → children ≡ [] → depth ≡ option_map_or (λ (n : Node). n.depth) (node_of page parent) 0 → own ≡ boxes → declared ≡ style →

@@ -22,6 +22,7 @@ use Rattle.box_tree.proofs.PlacedLemmas.{page-at_places, found-at_places, seen_a
 use Rattle.box_tree.proofs.PlanLemmas.{MeansEdited, means_edited, id-placed_in, is_some-node_at}
 use Rattle.box_tree.proofs.SubtreeLemmas.{parent_there, no_child}
 use Rattle.box_tree.proofs.TakenLemmas.{taken_out-head, occurrences-taken_out, height-taken_out, node_count-taken_out, each-taken_out, roots-taken_out, length-ids_without, place_without, placed_in-taken_out, occurrences-parted}
+use Rattle.box_tree.proofs.TotalLemmas.{total-taken_out}
 use Rattle.box_tree.proofs.CountLemmas.{count-looked_up}
 use mathlib.Core.Bool.{false≢true}
 
@@ -45,6 +46,7 @@ module _ (page : Contents) (valid : IsValid page) (id : ℕ) where
     suited = each-taken_out IsSuited page.tree [] id valid.suited;
     depth = omega (arith, height-taken_out page.tree id, valid.depth);
     nodes = omega (arith, node_count-taken_out page.tree id, valid.nodes);
+    boxes = omega (arith, total-taken_out (λ n. length n.boxes) page.tree id, valid.boxes);
     next = valid.next;
     viewport = valid.viewport;
   }

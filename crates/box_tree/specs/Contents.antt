@@ -4,10 +4,14 @@ use Rattle.std.specs.List.{filter}
 use Rattle.std.specs.Option.{option_map, option_map_or}
 use Rattle.fractions.specs.declared.rect.Spot.{Spot}
 use Rattle.computed_style.specs.declared.style.Style.{Style}
+pub use Rattle.computed_style.specs.Ranges.{IsWithin, IsSide}
+use Rattle.computed_style.specs.Ranges.{IsStyleInRange}
 use Rattle.box_tree.specs.declared.kind.Kind.{Kind}
 use Rattle.box_tree.specs.declared.piece.Piece.{Piece}
 use Rattle.box_tree.specs.declared.node.Node.{Node}
 use Rattle.box_tree.specs.declared.viewport.Viewport.{Viewport}
+use Rattle.box_tree.specs.Suits.{has_no_parent, kind_suits, box_count_suits, style_suits}
+use Rattle.box_tree.specs.Totals.{box_count}
 use Rattle.box_tree.specs.Forest.{Label, Forest, End, Grow, roots_of, tree_order, node_count, height_of, occurrences, Placed, placed_in, EachNode}
 
 -- what a page holds: a tree of nodes or none, the viewport and the next id
@@ -97,14 +101,6 @@ empty_page w h = record {
   next = 1;
 }
 
--- from - 2 ^ bits to 2 ^ bits
-abbrev pub IsWithin : ℕ → ℤ → Type 0
-IsWithin bits x = (neg_ℤ (pos (2 ^ bits)) ≤ℤ x) × (x ≤ℤ pos (2 ^ bits))
-
--- from 0 to 2 ^ bits
-abbrev pub IsSide : ℕ → ℤ → Type 0
-IsSide bits x = (pos 0 ≤ℤ x) × (x ≤ℤ pos (2 ^ bits))
-
 -- a point within the limits
 pub record IsSpotInRange (spot : Spot) : Type 0 where
   pub x : IsWithin 26 spot.x
@@ -132,14 +128,13 @@ pub record IsBoxInRange (box : Piece) : Type 0 where
   pub across : IsSpanInRange box.l box.w
   pub down : IsSpanInRange box.t box.h
 
--- how many boxes suit a node with these ancestors: the root is a block with exactly one, every other block has at most one
-abbrev pub boxes_suit : List Label → List Piece → Bool
-boxes_suit [] boxes = length boxes == 1
-boxes_suit (parent ∷ above) boxes = nat_le (length boxes) 1
-
 -- a node suits its place, and its numbers are within the limits
 pub record IsSuited (above : List Label) (n : Label) : Type 0 where
-  pub boxes : IsTrue (boxes_suit above n.boxes)
+  pub kind : IsTrue (kind_suits above n.kind)
+  pub boxes : IsTrue (box_count_suits (has_no_parent above) n.kind (length n.boxes))
+  pub style : IsTrue (style_suits n.kind n.style)
+  pub style_in_range : IsStyleInRange n.style
+  pub box_count : length n.boxes ≤ 1024
   pub in_range : All IsBoxInRange n.boxes
   pub anchor : IsSpotInRange n.anchor
   pub scroll : IsScrolled n.scroll n.max
@@ -163,5 +158,6 @@ pub record IsValid (page : Contents) : Type 0 where
   pub suited : EachNode IsSuited [] page.tree
   pub depth : height_of page.tree ≤ 256
   pub nodes : node_count page.tree ≤ 65536
+  pub boxes : box_count page.tree ≤ 262144
   pub next : (0 < page.next) × (page.next ≤ 1048577)
   pub viewport : IsViewport page.viewport

@@ -1,9 +1,11 @@
 -- What an edit makes of a page, and why it may be refused.
-use Rattle.std.specs.Prelude.{ℕ, zero, suc, ◌+◌, List, [], ◌∷◌, length, Option, Some, None, Bool, not, ◌&&◌, ◌||◌, if◌then◌else◌, ◌==◌, nat_lt, nat_le, All, codes, ℤ, pos, ◌^◌, ◌≤ℤ◌}
+use Rattle.std.specs.Prelude.{ℕ, zero, suc, ◌+◌, ◌<◌, List, [], ◌∷◌, length, Option, Some, None, Bool, false, not, ◌&&◌, ◌||◌, if◌then◌else◌, ◌==◌, nat_lt, nat_le, All, codes, ℤ, pos, ◌^◌, ◌≤ℤ◌}
 use Rattle.std.specs.Option.{option_map_or}
 use Rattle.std.specs.Int.{int_min, int_max}
 use Rattle.std.specs.List.{list_any}
 use Rattle.fractions.specs.declared.rect.Spot.{Spot}
+use Rattle.computed_style.specs.Ranges.{IsStyleInRange}
+use Rattle.computed_style.specs.declared.style.Style.{Style}
 use Rattle.box_tree.specs.declared.piece.Piece.{Piece}
 use Rattle.box_tree.specs.declared.viewport.Viewport.{Viewport}
 use Rattle.box_tree.specs.declared.edit.Edit.{Edit}
@@ -13,10 +15,22 @@ use Rattle.box_tree.specs.declared.edit.Done.TheVariants.{Node as NodeAdded, Don
 use Rattle.box_tree.specs.declared.edit.EditFault.{EditFault}
 use Rattle.box_tree.specs.declared.edit.EditFault.TheVariants as fault
 use Rattle.box_tree.specs.Forest.{Label, Forest, End, Grow, roots_of, node_count, height_of, occurrences}
-use Rattle.box_tree.specs.Contents.{Contents, placed_of, tree_of, ancestors_of, has_id, depth_below, new_label, boxes_suit, IsBoxInRange, IsSpotInRange, IsMaxInRange}
+use Rattle.box_tree.specs.Suits.{has_no_parent, kind_suits, box_count_suits, takes_place, node_suits}
+use Rattle.box_tree.specs.Totals.{box_count}
+use Rattle.box_tree.specs.Contents.{Contents, placed_of, tree_of, ancestors_of, has_id, depth_below, new_label, IsBoxInRange, IsSpotInRange, IsMaxInRange}
+
+-- an id is from 1 to 4,294,967,295
+abbrev pub IsId : ℕ → Type 0
+IsId id = (0 < id) × (id < 2 ^ 32)
+
+-- the numbers of an add are within their limits
+pub record IsAddInRange (boxes : List Piece) (style : Style) : Type 0 where
+  pub boxes_in_range : All IsBoxInRange boxes
+  pub style_in_range : IsStyleInRange style
 
 -- the numbers of a place are within their limits
-pub record IsPlaceInRange (anchor : Spot) (boxes : List Piece) (max : Spot) : Type 0 where
+pub record IsPlaceInRange (id : ℕ) (anchor : Spot) (boxes : List Piece) (max : Spot) : Type 0 where
+  pub id_in_range : IsId id
   pub anchor_in_range : IsSpotInRange anchor
   pub boxes_in_range : All IsBoxInRange boxes
   pub max_in_range : IsMaxInRange max
@@ -29,10 +43,10 @@ pub record IsResizeInRange (w h : ℤ) (max : Spot) : Type 0 where
 
 -- the numbers of an edit are within their limits
 abbrev pub IsInRange : Edit → Type 0
-IsInRange (Add parent at kind boxes style) = All IsBoxInRange boxes
-IsInRange (Remove id) = Unit {0}
-IsInRange (Move id parent at) = Unit {0}
-IsInRange (Place id anchor boxes max) = IsPlaceInRange anchor boxes max
+IsInRange (Add parent at kind boxes style) = IsAddInRange boxes style
+IsInRange (Remove id) = IsId id
+IsInRange (Move id parent at) = IsId id
+IsInRange (Place id anchor boxes max) = IsPlaceInRange id anchor boxes max
 IsInRange (Resize w h max) = IsResizeInRange w h max
 
 -- the trees with one more at place `at`
@@ -124,28 +138,46 @@ abbrev pub first_of : List (Bool × EditFault) → Option EditFault
 first_of [] = None
 first_of ((holds, why) ∷ others) = if holds then Some why else first_of others
 
--- the table of faults; a move can't offend the kinds, since every node is a block and a block may hold any block, and a
--- place can't make the page too full, since no node has more than one box
+-- whether a node has too many boxes, or the page has once an edit is carried out
+abbrev pub has_too_many_boxes : (of_node of_page : ℕ) → Bool
+has_too_many_boxes of_node of_page = nat_lt 1024 of_node || nat_lt 262144 of_page
+
+-- whether the page is full for one more node, with so many boxes
+abbrev pub is_full_for : Contents → ℕ → Bool
+is_full_for page count = nat_le 65536 (node_count page.tree) || (nat_lt 1048576 page.next || has_too_many_boxes count (count + box_count page.tree))
+
+-- whether the node `id` has a kind that may stand below `parent`
+abbrev pub kind_may_move : Contents → ℕ → ℕ → Bool
+kind_may_move page id parent = option_map_or (λ p. kind_suits (ancestors_below page parent) p.label.kind) (placed_of page id) false
+
+-- whether the node `id` has a kind that may be placed, with so many boxes
+abbrev pub kind_may_be_placed : Contents → ℕ → ℕ → Bool
+kind_may_be_placed page id count =
+    option_map_or (λ p. takes_place p.label.kind && box_count_suits (has_no_parent p.above) p.label.kind count) (placed_of page id) false
+
+-- the table of faults
 abbrev pub faults_of : Contents → Edit → List (Bool × EditFault)
 faults_of page (Add parent at kind boxes style) =
     (not (parent == 0 || has_id page parent), fault.Absent)
     ∷ (parent == 0 && nat_lt 0 (node_count page.tree), fault.Root)
-    ∷ (not (boxes_suit (ancestors_below page parent) boxes), fault.Kind)
+    ∷ (not (node_suits (ancestors_below page parent) kind style boxes), fault.Kind)
     ∷ (nat_lt (child_count page parent) at, fault.Place)
     ∷ (nat_lt 256 (depth_below (ancestors_below page parent)), fault.Deep)
-    ∷ (nat_le 65536 (node_count page.tree) || nat_lt 1048576 page.next, fault.Full)
+    ∷ (is_full_for page (length boxes), fault.Full)
     ∷ []
 faults_of page (Remove id) = (not (has_id page id), fault.Absent) ∷ []
 faults_of page (Move id parent at) =
     (not (has_id page id) || not (parent == 0 || has_id page parent), fault.Absent)
     ∷ (parent == 0 || is_root page id, fault.Root)
+    ∷ (not (kind_may_move page id parent), fault.Kind)
     ∷ (nat_lt 0 (occurrences (tree_of page id) parent), fault.Cycle)
     ∷ (nat_lt (child_count (page_without page id) parent) at, fault.Place)
     ∷ (nat_lt 256 (length (ancestors_below page parent) + height_of (tree_of page id)), fault.Deep)
     ∷ []
 faults_of page (Place id anchor boxes max) =
     (not (has_id page id), fault.Absent)
-    ∷ (not (boxes_suit (ancestors_of page id) boxes), fault.Kind)
+    ∷ (not (kind_may_be_placed page id (length boxes)), fault.Kind)
+    ∷ (has_too_many_boxes (length boxes) (box_count (relabelled id (laid_out anchor boxes max) page.tree)), fault.Full)
     ∷ []
 faults_of page (Resize w h max) = []
 

@@ -1,7 +1,7 @@
 ghost use Rattle.std.specs.Prelude.{◌≡◌, ◌↔◌, ◌≤ℤ◌, ◌^◌, pos, IsTrue};
 ghost use Rattle.box_tree.specs.declared.edit.EditFault.TheVariants.{OutOfMemory};
 ghost use Rattle.box_tree.specs.Contents.{IsSpotInRange, IsMaxInRange};
-ghost use Rattle.box_tree.specs.Edited.{IsPlaceInRange, IsResizeInRange, IsInRange, fault_number, fault_name};
+ghost use Rattle.box_tree.specs.Edited.{IsId, IsAddInRange, IsPlaceInRange, IsResizeInRange, IsInRange, fault_number, fault_name};
 
 use crate::kind::Kind;
 use crate::piece::{MOST, PieceList, lies_between};
@@ -57,24 +57,38 @@ impl Edit {
         ensures { IsTrue result ↔ IsInRange self.now }
     {
         match self {
-            Edit::Add { boxes, .. } => boxes.in_range(),
-            Edit::Remove { .. } | Edit::Move { .. } => true,
+            Edit::Add { boxes, style, .. } => is_add_in_range(boxes, style),
+            Edit::Remove { id } | Edit::Move { id, .. } => is_id(*id),
             Edit::Place {
+                id,
                 anchor,
                 boxes,
                 max,
-                ..
-            } => is_place_in_range(*anchor, boxes, *max),
+            } => is_place_in_range(*id, *anchor, boxes, *max),
             Edit::Resize { w, h, max } => is_resize_in_range(*w, *h, *max),
         }
     }
 }
 
-// Whether the numbers of a place are within their limits.
-fn is_place_in_range(anchor: Spot, boxes: &PieceList, max: Spot) -> bool
-    ensures { IsTrue result ↔ IsPlaceInRange anchor boxes.now max }
+// Whether a number is an id.
+fn is_id(id: u32) -> bool
+    ensures { IsTrue result ↔ IsId id }
 {
-    is_spot_in_range(anchor) && boxes.in_range() && is_max_in_range(max)
+    id > 0
+}
+
+// Whether the numbers of an add are within their limits.
+fn is_add_in_range(boxes: &PieceList, style: &Style) -> bool
+    ensures { IsTrue result ↔ IsAddInRange boxes.now style.now }
+{
+    boxes.in_range() && style.in_range()
+}
+
+// Whether the numbers of a place are within their limits.
+fn is_place_in_range(id: u32, anchor: Spot, boxes: &PieceList, max: Spot) -> bool
+    ensures { IsTrue result ↔ IsPlaceInRange id anchor boxes.now max }
+{
+    is_id(id) && is_spot_in_range(anchor) && boxes.in_range() && is_max_in_range(max)
 }
 
 // Whether the numbers of a resize are within their limits.
@@ -121,7 +135,7 @@ pub enum EditFault {
     Absent,
     #[error("the page would have a second root, or its root would have a parent")]
     Root,
-    #[error("the kind does not suit its parent, or the boxes do not suit the kind")]
+    #[error("the kind does not suit its parent, or the edit, the style or the boxes do not suit the kind")]
     Kind,
     #[error("a node would be moved below itself")]
     Cycle,

@@ -3,7 +3,7 @@
 //! It promises that an edit is tested by the table of faults before anything is changed, that a tested edit is
 //! carried out without taking memory, and that the page is then the edited one of `specs/Edited.antt`.
 //! It tells what holds a node and what its used values are, by `specs/Containing.antt` and `specs/Used.antt`.
-//! It stands on `fractions` for its points and its counter of steps, and on `computed_style` for styles.
+//! It stands on `fractions` for its points and its counter of steps, and on `computed_style` for declared styles.
 #![tactic(auto)]
 
 mod containing;
@@ -15,6 +15,7 @@ mod page;
 mod piece;
 mod plan;
 mod scroll;
+mod suits;
 mod used;
 mod viewport;
 

@@ -86,6 +86,13 @@ impl Boxes {
         self.0.as_slice()
     }
 
+    // How many boxes there are.
+    pub(crate) fn count(&self) -> usize
+        ensures { result ≡ length self.now }
+    {
+        self.0.len()
+    }
+
     // A copy of the boxes.
     pub(crate) fn from_pieces(alloc: Global, pieces: &[Piece]) -> Result<Boxes, AllocError>
         ensures { IfOk result (λ boxes. boxes ≡ pieces.now) }

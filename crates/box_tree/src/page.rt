@@ -15,6 +15,7 @@ use std::marker::Model;
 use std::snapshot::Snapshot;
 
 mod adds;
+mod boxes;
 mod moves;
 mod places;
 mod removes;
@@ -25,6 +26,8 @@ mod resizes;
 pub struct Page {
     // in the order of their ids
     nodes: Vec<Node>,
+    // how many boxes these nodes have
+    boxes: usize,
     root: Option<u32>,
     viewport: Viewport,
     next: u32,
@@ -41,11 +44,12 @@ impl Model for Page {
 
     ghost coded = { let label : Coded Label = Prim.hlevel codes in Prim.hlevel (codes, forest_code label) };
 
-    ghost use Rattle.box_tree.specs.Kept.{page_of, IsKept};
+    ghost use Rattle.box_tree.specs.Kept.{page_of};
+    ghost use Rattle.box_tree.specs.Counted.{IsCounted};
 
     ghost view = { λ p. record { contents = page_of p.nodes.items p.root p.viewport p.next; room = vec_capacity p.nodes } };
 
-    ghost invariant = { λ p. IsKept p.nodes.items p.root (page_of p.nodes.items p.root p.viewport p.next) };
+    ghost invariant = { λ p. IsCounted p.nodes.items p.root p.boxes (page_of p.nodes.items p.root p.viewport p.next) };
 }
 
 impl Page {
@@ -57,6 +61,7 @@ impl Page {
     {
         Page {
             nodes: Vec::new(alloc),
+            boxes: 0,
             root: None,
             viewport: Viewport {
                 w,

@@ -1,3 +1,3 @@
-pub mod SpanLemmas
 pub mod WalkLemmas
-pub mod LayerLemmas
+pub mod OnceLemmas
+pub mod AdmissionLemmas

@@ -1,57 +1,63 @@
 -- Which elements lie under a point of the viewport (CSSOM View, `elementsFromPoint`).
-use Rattle.std.specs.Prelude.{ℕ, ◌-◌, length, slice_get, List, [], ◌∷◌, ◌++◌, reverse, Option, Bool, false, not, ◌&&◌, if◌then◌else◌, ◌==◌, ℤ, pos, neg_ℤ, ◌+ℤ◌, ◌-ℤ◌, ◌*ℤ◌, int_le, int_lt}
+use Rattle.std.specs.Prelude.{ℕ, ◌+◌, ◌-◌, length, slice_get, List, [], ◌∷◌, ◌++◌, map, reverse, Option, Bool, false, not, ◌&&◌, if◌then◌else◌, ◌==◌, ℤ, pos, ◌+ℤ◌, ◌*ℤ◌, int_le, int_lt}
 use Rattle.std.specs.Option.{option_map_or}
 use Rattle.std.specs.List.{filter}
-use Rattle.fractions.specs.declared.rect.Spot.{Spot}
+use Rattle.box_tree.specs.declared.kind.Kind.{Kind}
+use Rattle.box_tree.specs.declared.kind.Kind.TheVariants.{Block, Inline, InlineBlock, Image, Text}
+use Rattle.box_tree.specs.declared.item.Item.{Item}
+use Rattle.box_tree.specs.declared.item.Part.{Part}
+use Rattle.box_tree.specs.declared.item.Part.TheVariants.{Box, Content, Outline}
 use Rattle.box_tree.specs.declared.piece.Piece.{Piece}
 use Rattle.box_tree.specs.declared.viewport.Viewport.{Viewport}
-use Rattle.box_tree.specs.Forest.{Label, roots_of}
-use Rattle.box_tree.specs.Contents.{Contents, placed_of, items_of, containing_block_chain}
+use Rattle.box_tree.specs.Forest.{Label, Forest, End, Grow, roots_of}
+use Rattle.box_tree.specs.Contents.{Contents, placed_of, parent_id}
+use Rattle.spaces.specs.declared.space.FinePoint.{FinePoint}
+use Rattle.spaces.specs.Spaces.{local_point}
 
--- the corner of the first box, where there is one (a block has no border yet, so this is its padding corner)
-abbrev pub padding_corner : List Piece → Spot
-padding_corner [] = record { x = pos 0; y = pos 0 }
-padding_corner (box ∷ boxes) = record { x = box.l; y = box.t }
+-- whether a coordinate in fine units lies between two in units: from the first on, and before the second
+abbrev pub lies_between : ℤ → ℤ → ℤ → Bool
+lies_between from before at = int_le (pos 64 *ℤ from) at && int_lt at (pos 64 *ℤ before)
 
--- a point moved by another
-abbrev pub moved_by : Spot → Spot → Spot
-moved_by by at = record { x = at.x +ℤ by.x; y = at.y +ℤ by.y }
+-- whether a border box holds a point: its left and top edges, and not its right and bottom ones
+abbrev pub box_holds : Piece → FinePoint → Bool
+box_holds box at = lies_between box.l (box.l +ℤ box.w) at.x && lies_between box.t (box.t +ℤ box.h) at.y
 
--- the point of the viewport from which a node is placed that has these containing blocks, nearest first: the padding corner
--- of the containing block in its space, and without one the origin of the scrolled viewport
-abbrev pub placed_from : Viewport → List Label → Spot
-placed_from viewport [] = record { x = neg_ℤ viewport.scroll.x; y = neg_ℤ viewport.scroll.y }
-placed_from viewport (holder ∷ holders) = moved_by (padding_corner holder.boxes) (moved_by holder.anchor (placed_from viewport holders))
+-- whether the area of a part of a node holds a point: of a box that box; contents and outlines aren't painted yet
+abbrev pub part_holds : Label → Part → FinePoint → Bool
+part_holds n (Box place) at = option_map_or (λ box. box_holds box at) (slice_get n.boxes place) false
+part_holds n Content at = false
+part_holds n Outline at = false
 
--- where the space of a node begins in the viewport: the point from which it is placed, moved by its own anchor
-abbrev pub space : Viewport → List Label → Label → Spot
-space viewport holders n = moved_by n.anchor (placed_from viewport holders)
+-- whether an item is admitted at a point of the viewport: its area holds the local point of its node
+abbrev pub admits : Contents → ℤ → ℤ → Item → Bool
+admits page x y item =
+    option_map_or (λ p. option_map_or (part_holds p.label item.part) (local_point page item.node x y) false) (placed_of page item.node) false
 
--- a point in fine units (1/64 of a unit)
-pub record FinePoint : Type 0 where
-  pub x : ℤ
-  pub y : ℤ
+-- the element of a node of this kind, by the ids of its parent and of itself: a text has that of its parent
+abbrev pub element_as : Kind → (parent own : ℕ) → ℕ
+element_as Block parent own = own
+element_as Inline parent own = own
+element_as InlineBlock parent own = own
+element_as Image parent own = own
+element_as Text parent own = parent
 
--- a point of the viewport in the coordinates of a space
-abbrev pub local_point : Spot → ℤ → ℤ → FinePoint
-local_point origin x y = record { x = pos 64 *ℤ (x -ℤ origin.x); y = pos 64 *ℤ (y -ℤ origin.y) }
+-- the element of an item: its node, and for the box of a text the parent of that
+abbrev pub element_of : Contents → Item → ℕ
+element_of page item = option_map_or (λ p. element_as p.label.kind (parent_id p.above) p.label.id) (placed_of page item.node) item.node
 
--- whether a span holds a coordinate: from its start on, and before its end
-abbrev pub span_holds : ℤ → ℤ → ℤ → Bool
-span_holds from side at = int_le (pos 64 *ℤ from) at && int_lt at (pos 64 *ℤ (from +ℤ side))
+-- the items of a node from this place on, one for each of these boxes
+abbrev pub items_from : ℕ → ℕ → List Piece → List Item
+items_from id place [] = []
+items_from id place (box ∷ boxes) = record { node = id; part = Box place } ∷ items_from id (place + 1) boxes
 
--- whether the border box of a node holds a point: its left and top edges, and not its right and bottom ones
-abbrev pub box_holds : List Piece → FinePoint → Bool
-box_holds [] at = false
-box_holds (box ∷ boxes) at = span_holds box.l box.w at.x && span_holds box.t box.h at.y
-
--- whether the item of a node is admitted at a point of the viewport
-abbrev pub admits : Contents → ℤ → ℤ → ℕ → Bool
-admits page x y id = option_map_or (λ p. box_holds p.label.boxes (local_point (space page.viewport (containing_block_chain p.above) p.label) x y)) (placed_of page id) false
+-- the items of trees in tree order
+abbrev pub items_in : Forest → List Item
+items_in End = []
+items_in (Grow n below others) = items_from n.id 0 n.boxes ++ (items_in below ++ items_in others)
 
 -- the painting walk from the root, from bottom to top: blocks in tree order (CSS 2.2, Appendix E)
-abbrev pub layer : Contents → List ℕ
-layer page = items_of page
+abbrev pub layer : Contents → List Item
+layer page = items_in page.tree
 
 -- each element at its first place only
 abbrev pub each_once : List ℕ → List ℕ
@@ -70,13 +76,17 @@ then_root root ids = if ends_with root ids then ids else ids ++ root ∷ []
 abbrev pub is_inside : Viewport → ℤ → ℤ → Bool
 is_inside viewport x y = (int_le (pos 0) x && int_le x viewport.w) && (int_le (pos 0) y && int_le y viewport.h)
 
+-- the elements of those of some items that are admitted at a point, in their order
+abbrev pub elements_of : Contents → ℤ → ℤ → List Item → List ℕ
+elements_of page x y items = map (element_of page) (filter (admits page x y) items)
+
 -- the elements from the point, from top to bottom, where these ids are the root's or none
 abbrev pub elements_with : Contents → ℤ → ℤ → List ℕ → List ℕ
 elements_with page x y [] = []
-elements_with page x y (root ∷ others) = then_root root (each_once (filter (admits page x y) (reverse (layer page))))
+elements_with page x y (root ∷ others) = then_root root (each_once (elements_of page x y (reverse (layer page))))
 
 -- the elements from the point: none outside the viewport or without a root; else the painting walk reversed, kept
--- where admitted, each element once, and then the root
+-- where admitted, each item turned into its element, each element once, and then the root
 abbrev pub elements_from_point : Contents → ℤ → ℤ → List ℕ
 elements_from_point page x y = if is_inside page.viewport x y then elements_with page x y (roots_of page.tree) else []
 

@@ -1,24 +1,20 @@
-ghost use Rattle.std.specs.Prelude.{◌≡◌, ◌↔◌, ◌⊎◌, false, IsNone, ℕ, ◌+◌, ◌*◌, ◌++◌, ◌∷◌, [], ◌&&◌, ◌+ℤ◌, ◌*ℤ◌, pos, int_le, if◌then◌else◌, IsTrue, IfOk};
-ghost use Rattle.box_tree.specs.Contents.{IsWithin, IsValid, has_id, tree_of, ancestor_count};
+ghost use Rattle.std.specs.Prelude.{◌≡◌, ◌↔◌, ◌⊎◌, false, IsNone, ◌++◌, ◌∷◌, [], ◌&&◌, int_le, if◌then◌else◌, IfOk};
+ghost use Rattle.std.specs.Option.{option_to_list};
+ghost use Rattle.box_tree.specs.Contents.{IsWithin};
 ghost use Rattle.box_tree.specs.Forest.{roots_of};
-ghost use Rattle.point_query.specs.Elements.{elements_from_point, element_from_point, is_inside, padding_corner, span_holds, box_holds, then_root, ends_with};
-ghost use Rattle.point_query.specs.Walk.{fine_point, from_start, admitted_in, IsNear};
+ghost use Rattle.point_query.specs.Elements.{elements_of, elements_from_point, element_from_point, each_once, is_inside, then_root, ends_with};
 
-use box_tree::{Page, Piece, Viewport};
-use fractions::{Ledger, Spot, Steps};
+use crate::admission::admitted_element;
+use crate::painting::painted;
+use box_tree::{Item, Page, Viewport};
+use fractions::{Ledger, Steps};
 use std::alloc::Global;
+use std::collections::BTreeSet;
 use tree_edits::{Engine, OutOfMemory};
-
-// A point in units, counted from one that the walk names.
-#[derive(Clone, Copy)]
-struct Local {
-    x: i128,
-    y: i128,
-}
 
 /// The elements under a point of the viewport, in units, from top to bottom (CSSOM View, `elementsFromPoint`).
 ///
-/// Empty outside the viewport and without a root. It takes memory for the answer alone, and leaves the page as it is.
+/// Empty outside the viewport and without a root. It takes memory for the items of the page, and leaves the page as it is.
 pub fn hit<L: Ledger>(
     alloc: Global,
     engine: &Engine,
@@ -30,18 +26,18 @@ pub fn hit<L: Ledger>(
     requires y { IsWithin 26 y }
     ensures { IfOk result (λ ids. ids.items ≡ elements_from_point engine.now x y) }
 {
-    let mut ids = Vec::new(alloc);
     let page = engine.page();
     let viewport = page.viewport();
     let Some(root) = page.root() else {
-        return Ok(ids);
+        return Ok(Vec::new(alloc));
     };
     if !holds_point(&viewport, x, y) {
-        return Ok(ids);
+        return Ok(Vec::new(alloc));
     }
-    page.validity();
-    admit(page, root, from_scroll(&viewport, x, y), &mut ids, steps)?;
-    ids.reverse();
+    let mut items = painted(alloc, page, root, steps)?;
+    items.reverse();
+    let elements = admitted_elements(alloc, page, &items, x, y, steps)?;
+    let mut ids = each_once(alloc, &elements)?;
     end_with(&mut ids, root)?;
     Ok(ids)
 }
@@ -79,93 +75,57 @@ fn lies_between(least: i64, x: i64, most: i64) -> bool
     least <= x && x <= most
 }
 
-// A point of the viewport, counted from where the root is placed.
-fn from_scroll(viewport: &Viewport, x: i64, y: i64) -> Local
-    ensures across { result.x ≡ x +ℤ viewport.now.scroll.x }
-    ensures down { result.y ≡ y +ℤ viewport.now.scroll.y }
-    ensures near { IsNear 0 result }
-{
-    Local {
-        x: i128::from(x) + i128::from(viewport.scroll.x),
-        y: i128::from(y) + i128::from(viewport.scroll.y),
-    }
-}
-
-// Appends what is admitted of a node and all below it, in tree order, at a point counted from where the node is placed.
-fn admit<L: Ledger>(
+// The elements of those of some items that are admitted at a point, in their order.
+fn admitted_elements<L: Ledger>(
+    alloc: Global,
     page: &Page,
-    id: u32,
-    at: Local,
-    ids: &mut Vec<u32>,
+    items: &[Item],
+    x: i64,
+    y: i64,
     steps: &mut Steps<L>,
-) -> Result<(), OutOfMemory>
-    requires valid { IsValid page.now.contents }
-    requires there { IsTrue (has_id page.now.contents id) }
-    requires near { IsNear (2 * ancestor_count page.now.contents id) at }
-    ensures { IfOk result (λ _. ids.new.items ≡ ids.old.items ++ admitted_in at (tree_of page.now.contents id)) }
+) -> Result<Vec<u32>, OutOfMemory>
+    requires x { IsWithin 26 x }
+    requires y { IsWithin 26 y }
+    ensures { IfOk result (λ ids. ids.items ≡ elements_of page.now.contents x y items.now) }
 {
-    let node = page.node(id, steps);
-    let boxes = node.boxes.as_slice();
-    let own = counted_from(at, node.anchor);
-    push_if(ids, id, holds(boxes, own))?;
-    let inner = counted_from(own, corner(boxes));
-    for child in node.children.as_slice() {
-        admit(page, *child, inner, ids, steps)?;
+    let mut ids = Vec::new(alloc);
+    for item in items {
+        push_some(&mut ids, admitted_element(page, *item, x, y, steps))?;
     }
-    Ok(())
+    Ok(ids)
 }
 
-// Appends the id where it is admitted.
-fn push_if(ids: &mut Vec<u32>, id: u32, is_admitted: bool) -> Result<(), OutOfMemory>
-    ensures { IfOk result (λ _. ids.new.items ≡ ids.old.items ++ (if is_admitted then id ∷ [] else [])) }
+// Appends an id where there is one.
+fn push_some(ids: &mut Vec<u32>, id: Option<u32>) -> Result<(), OutOfMemory>
+    ensures { IfOk result (λ _. ids.new.items ≡ ids.old.items ++ option_to_list id) }
 {
-    if is_admitted {
+    if let Some(id) = id {
         ids.push(id)?;
     }
     Ok(())
 }
 
-// Whether the box of a node holds a point of the node's space.
-fn holds(boxes: &[Piece], at: Local) -> bool
-    ensures { result ≡ box_holds boxes.now (fine_point at) }
+// Each id at its first place only.
+fn each_once(alloc: Global, ids: &[u32]) -> Result<Vec<u32>, OutOfMemory>
+    ensures { IfOk result (λ once. once.items ≡ each_once ids.now) }
 {
-    match boxes.first() {
-        Some(piece) => holds_from(piece.l, piece.w, at.x) && holds_from(piece.t, piece.h, at.y),
-        None => false,
+    let mut once = Vec::new(alloc);
+    let mut seen = BTreeSet::new(alloc);
+    for id in ids {
+        let is_new = seen.insert(*id)?;
+        push_if(&mut once, *id, is_new)?;
     }
+    Ok(once)
 }
 
-// Whether a span holds a coordinate, its start and not its end.
-fn holds_from(from: i64, side: i64, at: i128) -> bool
-    ensures { result ≡ span_holds from side (pos 64 *ℤ at) }
+// Appends the id where that is wanted.
+fn push_if(ids: &mut Vec<u32>, id: u32, is_wanted: bool) -> Result<(), OutOfMemory>
+    ensures { IfOk result (λ _. ids.new.items ≡ ids.old.items ++ (if is_wanted then id ∷ [] else [])) }
 {
-    let from = i128::from(from);
-    from <= at && at < from + i128::from(side)
-}
-
-// A point counted from another one.
-fn counted_from(at: Local, start: Spot) -> Local
-    requires { IsNear 511 at }
-    ensures counted { result ≡ from_start start at }
-    ensures near { (n : ℕ) → IsNear n at → IsNear (1 + n) result }
-{
-    Local {
-        x: at.x - i128::from(start.x),
-        y: at.y - i128::from(start.y),
+    if is_wanted {
+        ids.push(id)?;
     }
-}
-
-// The corner of the first of some boxes, and the point 0, 0 where there is none.
-fn corner(boxes: &[Piece]) -> Spot
-    ensures { result ≡ padding_corner boxes.now }
-{
-    match boxes.first() {
-        Some(piece) => Spot {
-            x: piece.l,
-            y: piece.t,
-        },
-        None => Spot { x: 0, y: 0 },
-    }
+    Ok(())
 }
 
 // Puts the root at the end, unless it is there already.

@@ -3,9 +3,9 @@ use Rattle.std.proofs.Common.{◌≡◌, ℕ, zero, suc, Bool, true, false, cond
 use Rattle.pointer_input.specs.declared.input.Input.{Input}
 use Rattle.pointer_input.specs.declared.input.Input.TheVariants.{Turn, Down, Up, Capture}
 use Rattle.pointer_input.specs.State.{State, start}
-use Rattle.pointer_input.specs.Capture.{holds_on, holder_after}
+use Rattle.pointer_input.specs.Capture.{holds_on}
 use Rattle.pointer_input.specs.Presses.{is_down, any_down, without_gone}
-use Rattle.pointer_input.specs.Buttons.{turned, pressed, released, captured_by, holder_while}
+use Rattle.pointer_input.specs.Buttons.{turned, holder_while}
 use Rattle.pointer_input.specs.Inputs.{step}
 use Rattle.pointer_input.specs.Runs.{state_after, IsFreeWithoutButton}
 use Rattle.pointer_input.proofs.ClickLemmas.{either_false}

@@ -1,8 +1,6 @@
 -- Lists whose first elements are changed, and the others not yet, as press chains while what is gone goes
 -- from them.
-use Rattle.std.proofs.Common.{◌≡◌, ℕ, suc, zero, ◌<◌, ◌+◌, Bool, true, false, cond, Option, Some, None, List, [], ◌∷◌, ◌++◌, map, take, drop, length, get_or, set, refl, sym, ap, ◌∙◌, arith}
-use Rattle.mouse_events.specs.Chain.{without}
-use Rattle.pointer_input.specs.Presses.{without_gone}
+use Rattle.std.proofs.Common.{◌≡◌, ℕ, suc, zero, ◌<◌, ◌+◌, List, [], ◌∷◌, ◌++◌, map, take, drop, length, get_or, set, refl, ap, ◌∙◌, arith}
 
 abbrev pub changed_below : {A : Type 0} → (A → A) → ℕ → List A → List A
 changed_below f i xs = map f (take i xs) ++ drop i xs

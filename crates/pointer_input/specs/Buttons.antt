@@ -1,5 +1,5 @@
 -- What each input makes of the state, and what it is answered with.
-use Rattle.std.specs.Prelude.{ℕ, Bool, true, false, not, Option, Some, None, List, [], ◌∷◌, map, option_map, slice_set, if◌then◌else◌}
+use Rattle.std.specs.Prelude.{ℕ, Bool, not, Option, Some, None, List, [], map, option_map, slice_set, if◌then◌else◌}
 use Rattle.mouse_events.specs.declared.event.Event.{Event}
 use Rattle.mouse_events.specs.Chain.{target, is_member}
 use Rattle.mouse_events.specs.Events.{events_between}

@@ -1,5 +1,5 @@
 -- A pointer with buttons over a list of inputs.
-use Rattle.std.specs.Prelude.{ℕ, ◌<◌, ◌≤◌, ⊤, List, [], ◌∷◌, ◌++◌, map, length}
+use Rattle.std.specs.Prelude.{◌<◌, ◌≤◌, ⊤, List, [], ◌∷◌, ◌++◌, map, length}
 use Rattle.std.specs.Option.{option_to_list}
 use Rattle.pointer_input.specs.declared.input.Input.{Input}
 use Rattle.pointer_input.specs.declared.input.Input.TheVariants.{Turn, Down, Up, Capture}

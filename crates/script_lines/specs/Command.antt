@@ -8,53 +8,23 @@ use Rattle.serde_json.specs.Events.{items_len, members_len}
 use Rattle.serde_json.specs.Find.{get, at, as_number, as_i64, as_str, as_array, as_object}
 use Rattle.serde_json.specs.Read.{read}
 use Rattle.fractions.specs.declared.rect.Spot.{Spot}
-use Rattle.computed_style.specs.Defaults.{empty_style}
 use Rattle.computed_style.specs.declared.style.Style.{Style}
 use Rattle.box_tree.specs.declared.kind.Kind.{Kind}
-use Rattle.box_tree.specs.declared.kind.Kind.TheVariants.{Block}
+use Rattle.box_tree.specs.declared.kind.Kind.TheVariants.{Block, Inline, InlineBlock, Image, Text}
 use Rattle.box_tree.specs.declared.piece.Piece.{Piece}
 use Rattle.box_tree.specs.declared.edit.Edit.TheVariants.{Add, Remove, Move, Place, Resize}
 use Rattle.box_tree.specs.Edited.{IsInRange}
 use Rattle.box_tree.specs.Contents.{IsWithin}
+use Rattle.script_lines.specs.Numbers.{◌>>=◌, number_within, coordinate, side, number_to, is_array_of, is_object_of}
+use Rattle.script_lines.specs.Style.{style_of}
 use Rattle.script_lines.specs.declared.command.Command.{Command}
 use Rattle.script_lines.specs.declared.command.Command.TheVariants.{Edit, Hit, Top}
 use Rattle.script_lines.specs.declared.command.LineFault.{LineFault}
 use Rattle.script_lines.specs.declared.command.LineFault.TheVariants as fault
 
--- One reading after another: there is none where one of them finds nothing.
-infixl 10 ◌>>=◌
-abbrev pub ◌>>=◌ : {A B : Type 0} → Option A → (A → Option B) → Option B
-found >>= next = option_and_then next found
-
--- a whole number, which is a JSON number that `as_i64` reads, within two bounds
-unfoldable pub number_within : ℤ → ℤ → Data → Option ℤ
-number_within low high d = do
-  n ← as_number d >>= as_i64
-  if int_le low n && int_le n high then Some n else None
-
--- a whole number from -2^26 to 2^26
-abbrev pub coordinate : Data → Option ℤ
-coordinate = number_within (negsuc 67108863) (pos 67108864)
-
--- a whole number from 0 to 2^26
-abbrev pub side : Data → Option ℤ
-side = number_within (pos 0) (pos 67108864)
-
--- a whole number from 0 to the bound
-abbrev pub number_to : ℕ → Data → Option ℕ
-number_to high d = option_map unsigned_abs (number_within (pos 0) (pos high) d)
-
 -- an id, which is a whole number from 1 to 4,294,967,295
 abbrev pub id_of : Data → Option ℕ
 id_of d = option_map unsigned_abs (number_within (pos 1) (pos 4294967295) d)
-
--- the value is an array of so many items
-abbrev pub is_array_of : ℕ → Data → Bool
-is_array_of n d = option_map_or (λ items. items_len items == n) (as_array d) false
-
--- the value is an object of so many keys, each of which stands in it once
-abbrev pub is_object_of : ℕ → Data → Bool
-is_object_of n d = option_map_or (λ members. members_len members == n) (as_object d) false
 
 -- a whole number from 1 to 2^20
 abbrev pub viewport_side : Data → Option ℤ
@@ -111,11 +81,13 @@ abbrev pub boxes_of : Data → Option (List Piece)
 boxes_of d = as_array d >>= each_box
 
 abbrev pub kind_named : List ℕ → Option Kind
-kind_named name = if bytes_eq name (codes "block") then Some Block else None
-
--- the empty style, which is the only one
-abbrev pub style_of : Data → Option Style
-style_of d = if is_object_of 0 d then Some empty_style else None
+kind_named name =
+    if bytes_eq name (codes "block") then Some Block
+    else if bytes_eq name (codes "inline") then Some Inline
+    else if bytes_eq name (codes "inline-block") then Some InlineBlock
+    else if bytes_eq name (codes "image") then Some Image
+    else if bytes_eq name (codes "text") then Some Text
+    else None
 
 -- the parent, the place, the kind and the style of a new node
 unfoldable pub new_node : Data → Option (ℕ × ℕ × Kind × Style)

@@ -1,3 +1,5 @@
 pub mod Blank
 pub mod Command
+pub mod Numbers
 pub mod Reply
+pub mod Style

@@ -8,6 +8,7 @@
 mod command;
 mod reply;
 mod rows;
+mod style;
 mod values;
 
 pub use command::{Command, LONGEST_LINE, LineFault, command_of, is_blank};

@@ -1,13 +1,16 @@
 // The rows of the ops, from a JSON object to a command.
 ghost use Rattle.std.specs.Prelude.{◌≡◌, IfOk, IfSome};
 ghost use Rattle.serde_json.specs.View.{view};
+ghost use Rattle.computed_style.specs.Ranges.{IsStyleInRange};
 ghost use Rattle.box_tree.specs.Contents.{IsSpotInRange, IsMaxInRange, IsWithin};
+ghost use Rattle.box_tree.specs.Edited.{IsId};
 ghost use Rattle.script_lines.specs.Command.{new_node, add_of, remove_of, move_of, layout, place_of, resize_of, point_of, hit_of, top_of, command_reading, IsAskable};
 
 use crate::command::Command;
+use crate::style::style_from;
 use crate::values::{
     anchor_from, boxes_from, coordinate, id_from, is_object_of, kind_from, max_from, number_to,
-    style_from, viewport_side,
+    viewport_side,
 };
 use box_tree::{Edit, Kind};
 use computed_style::Style;
@@ -18,7 +21,8 @@ use std::alloc::{AllocError, Global};
 // The parent, the place, the kind and the style of a new node.
 #[tactic(auto, unfolding(crate::specs::Command::new_node))]
 fn node_from(alloc: Global, value: &Value) -> Option<(u32, u32, Kind, Style)>
-    ensures { result ≡ new_node (view value.now) }
+    ensures value { result ≡ new_node (view value.now) }
+    ensures in_range { IfSome result (λ node. IsStyleInRange node.3) }
 {
     let parent = number_to(value.get("parent"), u32::MAX)?;
     let at = number_to(value.get("at"), u32::MAX)?;
@@ -102,6 +106,7 @@ fn place_from(alloc: Global, value: &Value) -> Result<Option<Command>, AllocErro
 #[tactic(auto, unfolding(crate::specs::Command::layout))]
 fn layout_from(value: &Value) -> Option<(u32, Spot, Spot)>
     ensures value { result ≡ layout (view value.now) }
+    ensures id { IfSome result (λ l. IsId l.0) }
     ensures anchor { IfSome result (λ l. IsSpotInRange l.1) }
     ensures max { IfSome result (λ l. IsMaxInRange l.2) }
 {

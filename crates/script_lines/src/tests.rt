@@ -1,7 +1,8 @@
 // Lines and replies, each expected value worked out by hand.
 
 use crate::{Command, LineFault, Reply, command_of, is_blank, print};
-use box_tree::EditFault;
+use box_tree::{Edit, EditFault, Kind};
+use computed_style::{Position, Style};
 use std::alloc::Global;
 use std::process::Abort;
 use std::test::Fail;
@@ -100,4 +101,150 @@ fn line_faults_have_numbers_and_names(rt: HostRuntime) -> Result<(), Fail> {
     );
     assert_eq!(rt; LineFault::OutOfMemory.number(), None);
     Ok(())
+}
+
+// The kind and the style of an add with these values of its keys, and none where that is no command.
+fn added(alloc: Global, kind: &str, style: &str) -> Result<Option<(Kind, Style)>, Fail> {
+    let line = format!(in alloc;
+        "{{\"op\":\"add\",\"parent\":1,\"at\":0,\"kind\":{kind},\"boxes\":[],\"style\":{style}}}"
+    )?;
+    match command_of(alloc, line.as_bytes()) {
+        Ok(Command::Edit(Edit::Add { kind, style, .. })) => Ok(Some((kind, style))),
+        _ => Ok(None),
+    }
+}
+
+#[test]
+fn kinds_have_their_names(rt: HostRuntime) -> Result<(), Fail> {
+    let alloc = rt.alloc();
+    for (name, expected) in [
+        (r#""block""#, Some(Kind::Block)),
+        (r#""inline""#, Some(Kind::Inline)),
+        (r#""inline-block""#, Some(Kind::InlineBlock)),
+        (r#""image""#, Some(Kind::Image)),
+        (r#""text""#, Some(Kind::Text)),
+        (r#""svg""#, None),
+        (r#""Block""#, None),
+        (r#""""#, None),
+        ("0", None),
+    ] {
+        let kind = added(alloc, name, "{}")?.map(|node| node.0);
+        assert_eq!(rt; kind, expected, "{name}");
+    }
+    Ok(())
+}
+
+// What the keys that are built set: position, float, z, opacity, border and display.
+type Set = (Position, bool, Option<i32>, u16, [i64; 4], bool);
+
+#[test]
+fn each_key_of_a_style_has_its_least_and_its_greatest_value(rt: HostRuntime) -> Result<(), Fail> {
+    let alloc = rt.alloc();
+    for (text, expected) in [
+        (
+            r#"{}"#,
+            Some((Position::Static, false, None, 1000, [0; 4], false)),
+        ),
+        (
+            r#"{"position":"static"}"#,
+            Some((Position::Static, false, None, 1000, [0; 4], false)),
+        ),
+        (
+            r#"{"position":"relative"}"#,
+            Some((Position::Relative, false, None, 1000, [0; 4], false)),
+        ),
+        (
+            r#"{"position":"absolute"}"#,
+            Some((Position::Absolute, false, None, 1000, [0; 4], false)),
+        ),
+        (
+            r#"{"position":"fixed"}"#,
+            Some((Position::Fixed, false, None, 1000, [0; 4], false)),
+        ),
+        (r#"{"position":"sticky"}"#, None),
+        (
+            r#"{"float":"none"}"#,
+            Some((Position::Static, false, None, 1000, [0; 4], false)),
+        ),
+        (
+            r#"{"float":"left"}"#,
+            Some((Position::Static, true, None, 1000, [0; 4], false)),
+        ),
+        (
+            r#"{"float":"right"}"#,
+            Some((Position::Static, true, None, 1000, [0; 4], false)),
+        ),
+        (r#"{"float":true}"#, None),
+        (
+            r#"{"z":-2147483648}"#,
+            Some((Position::Static, false, Some(i32::MIN), 1000, [0; 4], false)),
+        ),
+        (
+            r#"{"z":2147483647}"#,
+            Some((Position::Static, false, Some(i32::MAX), 1000, [0; 4], false)),
+        ),
+        (r#"{"z":-2147483649}"#, None),
+        (r#"{"z":2147483648}"#, None),
+        (r#"{"z":"auto"}"#, None),
+        (r#"{"z":1.5}"#, None),
+        (
+            r#"{"opacity":0}"#,
+            Some((Position::Static, false, None, 0, [0; 4], false)),
+        ),
+        (
+            r#"{"opacity":1000}"#,
+            Some((Position::Static, false, None, 1000, [0; 4], false)),
+        ),
+        (r#"{"opacity":1001}"#, None),
+        (r#"{"opacity":-1}"#, None),
+        (
+            r#"{"border":[0,1048576,2,3]}"#,
+            Some((
+                Position::Static,
+                false,
+                None,
+                1000,
+                [0, 1_048_576, 2, 3],
+                false,
+            )),
+        ),
+        (r#"{"border":[0,0,0,1048577]}"#, None),
+        (r#"{"border":[-1,0,0,0]}"#, None),
+        (r#"{"border":[0,0,0]}"#, None),
+        (r#"{"border":[0,0,0,0,0]}"#, None),
+        (
+            r#"{"display":"inline"}"#,
+            Some((Position::Static, false, None, 1000, [0; 4], false)),
+        ),
+        (
+            r#"{"display":"block"}"#,
+            Some((Position::Static, false, None, 1000, [0; 4], true)),
+        ),
+        (r#"{"display":"none"}"#, None),
+        (
+            r#"{"z":0,"position":"fixed","opacity":5,"display":"block"}"#,
+            Some((Position::Fixed, false, Some(0), 5, [0; 4], true)),
+        ),
+        (r#"{"transform":[]}"#, None),
+        (r#"{"radii":[0,0,0,0,0,0,0,0]}"#, None),
+        (r#"{"visibility":"visible"}"#, None),
+        (r#"{"zindex":1}"#, None),
+        (r#"[]"#, None),
+        (r#"null"#, None),
+    ] {
+        let set = added(alloc, r#""block""#, text)?.map(|node| set_by(&node.1));
+        assert_eq!(rt; set, expected, "{text}");
+    }
+    Ok(())
+}
+
+fn set_by(style: &Style) -> Set {
+    (
+        style.position,
+        style.floats,
+        style.z,
+        style.opacity,
+        style.border,
+        style.display_block,
+    )
 }

@@ -1,12 +1,13 @@
-// The values of a command: numbers, points, boxes, kinds and styles, each from its JSON value.
+// The values of a command: numbers, points, boxes and kinds, each from its JSON value.
 ghost use Rattle.std.specs.Prelude.{◌≡◌, ◌^◌, ◌<◌, ◌≤◌, ◌≤ℤ◌, ◌==◌, IsTrue, IfOk, IfSome, option_map, option_and_then, All, pos, ◌+ℤ◌, int_le};
 ghost use Rattle.serde_json.specs.Find.{as_str};
 ghost use Rattle.serde_json.specs.View.{view, items_view};
+ghost use Rattle.box_tree.specs.Edited.{IsId};
 ghost use Rattle.box_tree.specs.Contents.{IsBoxInRange, IsSpotInRange, IsMaxInRange, IsWithin, IsSide};
-ghost use Rattle.script_lines.specs.Command.{number_within as within, coordinate as coordinate_in, side as side_in, number_to as number_up_to, is_array_of as has_items, is_object_of as has_keys, spot_within as spot_in, anchor_of, max_of, viewport_side as viewport_side_in, box_at, box_of, each_box, boxes_of, id_of, kind_named, style_of};
+ghost use Rattle.script_lines.specs.Numbers.{number_within as within, coordinate as coordinate_in, side as side_in, number_to as number_up_to, is_array_of as has_items, is_object_of as has_keys};
+ghost use Rattle.script_lines.specs.Command.{spot_within as spot_in, anchor_of, max_of, viewport_side as viewport_side_in, box_at, box_of, each_box, boxes_of, id_of, kind_named};
 
 use box_tree::{Kind, Piece, PieceList};
-use computed_style::Style;
 use fractions::Spot;
 use serde_json::Value;
 use std::alloc::{AllocError, Global};
@@ -17,8 +18,8 @@ const LIMIT: i64 = 1 << 26;
 /// The greatest side of the viewport, in units.
 const VIEWPORT: i64 = 1 << 20;
 
-#[tactic(auto, unfolding(crate::specs::Command::number_within))]
-fn number_within(found: Option<&Value>, low: i64, high: i64) -> Option<i64>
+#[tactic(auto, unfolding(crate::specs::Numbers::number_within))]
+pub(crate) fn number_within(found: Option<&Value>, low: i64, high: i64) -> Option<i64>
     ensures value { result ≡ option_and_then (within low high) (option_map (λ v. view v.now) found.entry) }
     ensures in_range { IfSome result (λ n. (low ≤ℤ n) × (n ≤ℤ high)) }
 {
@@ -53,13 +54,14 @@ pub(crate) fn number_to(found: Option<&Value>, high: u32) -> Option<u32>
 }
 
 pub(crate) fn id_from(found: Option<&Value>) -> Option<u32>
-    ensures { result ≡ option_and_then id_of (option_map (λ v. view v.now) found.entry) }
+    ensures value { result ≡ option_and_then id_of (option_map (λ v. view v.now) found.entry) }
+    ensures in_range { IfSome result IsId }
 {
     let number = number_within(found, 1, i64::from(u32::MAX))?;
     Some(number.unsigned_abs() as u32)
 }
 
-fn is_array_of(value: &Value, count: usize) -> bool
+pub(crate) fn is_array_of(value: &Value, count: usize) -> bool
     ensures { result ≡ has_items count (view value.now) }
 {
     match value.as_array() {
@@ -189,20 +191,12 @@ pub(crate) fn boxes_from(
 pub(crate) fn kind_from(found: Option<&Value>) -> Option<Kind>
     ensures { result ≡ option_and_then kind_named (option_and_then as_str (option_map (λ v. view v.now) found.entry)) }
 {
-    if found?.as_str()? == "block" {
-        Some(Kind::Block)
-    } else {
-        None
-    }
-}
-
-// The empty style, which is the only one.
-pub(crate) fn style_from(alloc: Global, found: Option<&Value>) -> Option<Style>
-    ensures { result ≡ option_and_then style_of (option_map (λ v. view v.now) found.entry) }
-{
-    if is_object_of(found?, 0) {
-        Some(Style::new(alloc))
-    } else {
-        None
+    match found?.as_str()? {
+        "block" => Some(Kind::Block),
+        "inline" => Some(Kind::Inline),
+        "inline-block" => Some(Kind::InlineBlock),
+        "image" => Some(Kind::Image),
+        "text" => Some(Kind::Text),
+        _ => None,
     }
 }

@@ -3,11 +3,12 @@ ghost use Rattle.std.specs.Prelude.{◌≡◌, ◌≢◌, ◌+◌, ◌*◌, ◌�
 ghost use Rattle.std.specs.List.{insert};
 ghost use Rattle.std.specs.Option.{option_map_or, option_copied};
 ghost use Rattle.box_tree.specs.declared.edit.Edit.TheVariants.{Add};
-ghost use Rattle.box_tree.specs.Contents.{has_id, IsBoxInRange};
-ghost use Rattle.box_tree.specs.Edited.{first_fault, edited, answer_of, child_count, ancestors_below};
+ghost use Rattle.box_tree.specs.Contents.{has_id};
+ghost use Rattle.box_tree.specs.Edited.{IsAddInRange, first_fault, edited, answer_of, child_count, ancestors_below};
 ghost use Rattle.box_tree.specs.Forest.{node_count};
 ghost use Rattle.box_tree.specs.Kept.{node_with, with_children, IsRisingFrom, ChangesNode};
 ghost use Rattle.box_tree.specs.Planned.{IsPlanned};
+ghost use Rattle.box_tree.specs.Suits.{node_suits};
 ghost use Rattle.box_tree.specs.declared.plan.Plan.TheVariants.{AddNode};
 
 use super::{Page, place_of};
@@ -16,16 +17,11 @@ use crate::kind::Kind;
 use crate::node::{Boxes, IdList, Node, ORIGIN};
 use crate::piece::PieceList;
 use crate::plan::Plan;
+use crate::suits::node_suits;
 use computed_style::Style;
 use smallvec::SmallVec;
 use std::alloc::{AllocError, Global};
 use std::snapshot::Snapshot;
-
-// The greatest number of nodes at once.
-const NODES: usize = 65_536;
-
-// The greatest id.
-const IDS: u32 = 1_048_576;
 
 // The greatest depth.
 pub(super) const LEVELS: u32 = 256;
@@ -58,7 +54,7 @@ impl Page {
         if parent == 0 && !self.nodes.is_empty() {
             return Some(EditFault::Root);
         }
-        if !box_count_suits(above.is_none(), boxes.0.len()) {
+        if !self.node_suits_below(parent, kind, style, boxes) {
             return Some(EditFault::Kind);
         }
         let seat = seat_below(above);
@@ -68,10 +64,17 @@ impl Page {
         if seat.depth >= LEVELS {
             return Some(EditFault::Deep);
         }
-        if self.nodes.len() >= NODES || self.next > IDS {
+        if self.is_full_for(boxes.0.len()) {
             return Some(EditFault::Full);
         }
         None
+    }
+
+    // Whether a new node suits this parent, which is none for 0.
+    fn node_suits_below(&self, parent: u32, kind: Kind, style: &Style, boxes: &PieceList) -> bool
+        ensures { result ≡ node_suits (ancestors_below self.now.contents parent) kind style.now boxes.now }
+    {
+        node_suits(self.find(parent), kind, style, boxes)
     }
 
     // The plan of an add, with all its memory.
@@ -83,7 +86,7 @@ impl Page {
         boxes: &PieceList,
         style: &Style,
     ) -> Result<Plan, EditFault>
-        requires { All IsBoxInRange boxes.now }
+        requires { IsAddInRange boxes.now style.now }
         ensures contents { self.new.contents ≡ self.old.contents }
         ensures room { self.old.room ≤ self.new.room }
         ensures planned { IfOk result (λ plan. IsPlanned plan (Add parent at kind boxes.now style.now) self.new) }
@@ -105,7 +108,7 @@ impl Page {
         boxes: &PieceList,
         style: &Style,
     ) -> Result<Plan, EditFault>
-        requires range { All IsBoxInRange boxes.now }
+        requires range { IsAddInRange boxes.now style.now }
         requires faultless { first_fault self.now.contents (Add parent at kind boxes.now style.now) ≡ None }
         requires room { node_count self.now.contents.tree < self.now.room }
         ensures planned { IfOk result (λ plan. IsPlanned plan (Add parent at kind boxes.now style.now) self.now) }
@@ -153,6 +156,7 @@ impl Page {
     {
         self.root = Some(node.id);
         self.next += 1;
+        self.boxes += node.boxes.count();
         self.nodes.push_reserved(node);
     }
 
@@ -164,6 +168,7 @@ impl Page {
     {
         give_children(&mut self.nodes, node.parent, siblings);
         self.next += 1;
+        self.boxes += node.boxes.count();
         self.nodes.push_reserved(node);
     }
 }
@@ -215,11 +220,4 @@ pub(super) fn give_children(nodes: &mut Vec<Node>, id: u32, children: IdList)
         }
         None => unreachable!(),
     }
-}
-
-// Whether so many boxes suit the root, or another block.
-pub(super) fn box_count_suits(is_root: bool, count: usize) -> bool
-    ensures { result ≡ (if is_root then count == 1 else nat_le count 1) }
-{
-    if is_root { count == 1 } else { count <= 1 }
 }

@@ -4,7 +4,7 @@ ghost use Rattle.std.specs.List.Sorted.{IsNonDecreasing};
 ghost use Rattle.box_tree.specs.declared.edit.Edit.TheVariants.{Move};
 ghost use Rattle.box_tree.specs.declared.plan.Plan.TheVariants.{MoveNodes};
 ghost use Rattle.box_tree.specs.Contents.{tree_of, has_id, node_of, IsValid};
-ghost use Rattle.box_tree.specs.Edited.{first_fault, edited, answer_of, ancestors_below, child_count, page_without, is_root};
+ghost use Rattle.box_tree.specs.Edited.{IsId, kind_may_move, first_fault, edited, answer_of, ancestors_below, child_count, page_without, is_root};
 ghost use Rattle.box_tree.specs.Forest.{height_of, occurrences};
 ghost use Rattle.box_tree.specs.Planned.{children_without, relocated, relocated_among, AreIdsOfTree, IsPlaceFor, IsPlanned};
 
@@ -14,11 +14,13 @@ use super::removes::{ids_of_tree, siblings_without};
 use crate::edit::{Done, Edit, EditFault};
 use crate::node::{IdList, Node};
 use crate::plan::{Plan, Relocation};
+use crate::suits::kind_suits;
 use std::snapshot::Snapshot;
 
 impl Page {
     // The plan of a move, with all its memory.
     pub(super) fn plan_move(&self, id: u32, parent: u32, at: u32) -> Result<Plan, EditFault>
+        requires { IsId id }
         ensures planned { IfOk result (λ plan. IsPlanned plan (Move id parent at) self.now) }
         ensures first_fault { IfErr result (λ why. why ≢ EditFault.OutOfMemory → first_fault self.now.contents (Move id parent at) ≡ Some why) }
     {
@@ -50,6 +52,9 @@ impl Page {
         if self.involves_root(id, parent) {
             return Some(EditFault::Root);
         }
+        if !self.kind_may_move(id, parent) {
+            return Some(EditFault::Kind);
+        }
         if self.goes_below_itself(id, parent, ids) {
             return Some(EditFault::Cycle);
         }
@@ -60,6 +65,16 @@ impl Page {
             return Some(EditFault::Deep);
         }
         None
+    }
+
+    // Whether the kind of the node may stand below the new parent.
+    fn kind_may_move(&self, id: u32, parent: u32) -> bool
+        ensures { result ≡ kind_may_move self.now.contents id parent }
+    {
+        match self.find(id) {
+            Some(node) => kind_suits(self.find(parent), node.kind),
+            None => false,
+        }
     }
 
     // Whether the new parent is in the moved tree, which has these ids.
@@ -131,6 +146,7 @@ impl Page {
         ids: IdList,
         others: &IdList,
     ) -> Result<Plan, EditFault>
+        requires range { IsId id }
         requires ids { AreIdsOfTree self.now.contents id ids }
         requires others { others.now ≡ children_without self.now.contents parent id }
         requires faultless { first_fault self.now.contents (Move id parent at) ≡ None }

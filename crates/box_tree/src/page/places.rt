@@ -1,18 +1,20 @@
 // A place: its faults, its plan, and carrying it out.
-ghost use Rattle.std.specs.Prelude.{◌≡◌, ◌≢◌, Some, IsSome, IfOk, IfErr, vec_capacity};
+ghost use Rattle.std.specs.Prelude.{◌≡◌, ◌≢◌, ◌&&◌, ◌==◌, length, Some, IsSome, IfOk, IfErr, vec_capacity};
 ghost use Rattle.box_tree.specs.declared.edit.Edit.TheVariants.{Place};
 ghost use Rattle.box_tree.specs.declared.plan.Plan.TheVariants.{PlaceNode};
-ghost use Rattle.box_tree.specs.Edited.{IsPlaceInRange, first_fault, edited, laid_out, answer_of};
+ghost use Rattle.box_tree.specs.Edited.{IsPlaceInRange, kind_may_be_placed, first_fault, edited, laid_out, answer_of};
 ghost use Rattle.box_tree.specs.Kept.{node_with, with_label, IsRisingFrom, ChangesNode};
 ghost use Rattle.box_tree.specs.Planned.{IsPlanned};
+ghost use Rattle.box_tree.specs.Suits.{takes_place as is_placed, box_count_suits as count_suits};
 
-use super::adds::box_count_suits;
+use super::boxes::boxes_of;
 use super::{Page, place_of};
 use crate::edit::{Done, Edit, EditFault};
 use crate::node::{Boxes, Node};
 use crate::piece::PieceList;
 use crate::plan::{Placement, Plan};
 use crate::scroll::clamp;
+use crate::suits::{box_count_suits, takes_place};
 use std::snapshot::Snapshot;
 
 impl Page {
@@ -20,18 +22,31 @@ impl Page {
     fn fault_of_place(&self, p: Placement, boxes: &PieceList) -> Option<EditFault>
         ensures { result ≡ first_fault self.now.contents (Place p.id p.anchor boxes.now p.max) }
     {
-        let Some(node) = self.find(p.id) else {
+        if !self.has(p.id) {
             return Some(EditFault::Absent);
-        };
-        if !box_count_suits(node.depth == 1, boxes.0.len()) {
+        }
+        if !self.kind_may_be_placed(p.id, boxes.0.len()) {
             return Some(EditFault::Kind);
+        }
+        if self.has_too_many_placed(p, boxes) {
+            return Some(EditFault::Full);
         }
         None
     }
 
+    // Whether the kind of the node may be placed, with so many boxes.
+    fn kind_may_be_placed(&self, id: u32, count: usize) -> bool
+        ensures { result ≡ kind_may_be_placed self.now.contents id count }
+    {
+        match self.find(id) {
+            Some(node) => may_be_placed(node, count),
+            None => false,
+        }
+    }
+
     // The plan of a place, with all its memory.
     pub(super) fn plan_place(&self, p: Placement, boxes: &PieceList) -> Result<Plan, EditFault>
-        requires { IsPlaceInRange p.anchor boxes.now p.max }
+        requires { IsPlaceInRange p.id p.anchor boxes.now p.max }
         ensures planned { IfOk result (λ plan. IsPlanned plan (Place p.id p.anchor boxes.now p.max) self.now) }
         ensures first_fault { IfErr result (λ why. why ≢ EditFault.OutOfMemory → first_fault self.now.contents (Place p.id p.anchor boxes.now p.max) ≡ Some why) }
     {
@@ -60,8 +75,16 @@ impl Page {
         requires { IsPlanned (PlaceNode p boxes) edit.now.value self.old }
         ensures { self.new.contents ≡ edited self.old.contents edit.now.value }
     {
+        self.boxes = self.boxes - boxes_of(self.find(p.id)) + boxes.count();
         lay_out_among(&mut self.nodes, p, boxes);
     }
+}
+
+// Whether a node may be placed with so many boxes.
+fn may_be_placed(node: &Node, count: usize) -> bool
+    ensures { result ≡ (is_placed node.now.kind && count_suits (node.now.depth == 1) node.now.kind count) }
+{
+    takes_place(node.kind) && box_count_suits(node.depth == 1, node.kind, count)
 }
 
 // One of the nodes is laid out.

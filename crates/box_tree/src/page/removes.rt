@@ -5,13 +5,14 @@ ghost use Rattle.std.specs.List.Sorted.{IsNonDecreasing};
 ghost use Rattle.std.specs.Option.{option_map_or, option_copied};
 ghost use Rattle.box_tree.specs.declared.edit.Edit.TheVariants.{Remove};
 ghost use Rattle.box_tree.specs.Contents.{tree_of, IsValid};
-ghost use Rattle.box_tree.specs.Edited.{first_fault, edited, answer_of};
+ghost use Rattle.box_tree.specs.Edited.{IsId, first_fault, edited, answer_of};
 ghost use Rattle.box_tree.specs.Forest.{ids_in};
 ghost use Rattle.box_tree.specs.Planned.{ids_without, is_among, AreIdsOfTree, IsPlanned};
 ghost use Rattle.box_tree.specs.declared.plan.Plan.TheVariants.{RemoveNodes};
 
 use super::Page;
 use super::adds::give_children;
+use super::boxes::boxes_of_all;
 use crate::edit::{Done, Edit, EditFault};
 use crate::node::{IdList, Node};
 use crate::plan::Plan;
@@ -21,6 +22,7 @@ use std::snapshot::Snapshot;
 impl Page {
     // The plan of a remove, with all its memory.
     pub(super) fn plan_remove(&self, id: u32) -> Result<Plan, EditFault>
+        requires { IsId id }
         ensures planned { IfOk result (λ plan. IsPlanned plan (Remove id) self.now) }
         ensures first_fault { IfErr result (λ why. why ≢ EditFault.OutOfMemory → first_fault self.now.contents (Remove id) ≡ Some why) }
     {
@@ -65,6 +67,7 @@ impl Page {
         ensures { self.new.contents ≡ edited self.old.contents edit.now.value }
     {
         self.root = None;
+        self.boxes = 0;
         self.nodes.clear();
     }
 
@@ -76,6 +79,7 @@ impl Page {
     {
         give_children(&mut self.nodes, parent, siblings);
         drop_nodes(&mut self.nodes, gone);
+        self.boxes = boxes_of_all(&self.nodes);
     }
 }
 

@@ -11,6 +11,7 @@ use std::process::Abort;
 use std::test::Fail;
 
 mod counts;
+mod kinds;
 mod layouts;
 
 // A box of 100 by 100 units for each corner.
@@ -186,7 +187,6 @@ fn a_remove_takes_the_node_and_all_below_it(rt: HostRuntime) -> Result<(), Fail>
         (Step::Add(1, 1), Ok(6), 6),
         (Step::Add(1, 0), Ok(7), 7),
         (Step::Remove(9999), Err(Some(4)), 7),
-        (Step::Remove(0), Err(Some(4)), 7),
         (Step::Remove(2), Ok(0), 3),
         (Step::Remove(2), Err(Some(4)), 3),
         (Step::Remove(5), Err(Some(4)), 3),

@@ -2,9 +2,9 @@ ghost use Rattle.std.specs.Prelude.{◌≡◌, ◌<◌};
 ghost use Rattle.box_tree.specs.Contents.{IsWithin};
 
 use super::*;
-use box_tree::{Edit, Kind, PieceList};
+use box_tree::{Edit, Kind, Piece, PieceList};
 use computed_style::Style;
-use fractions::{Blank, Brand};
+use fractions::{Blank, Brand, Spot};
 use std::process::Abort;
 use std::test::Fail;
 

@@ -43,7 +43,7 @@ fn faults_of_places_come_in_the_order_of_the_table(rt: HostRuntime) -> Result<()
     assert_eq!(rt; answer(&rt, &mut empty, &edit), Err(Some(4)));
     let mut page = three_blocks(&rt, alloc)?;
     for (id, corners, expected) in [
-        (0, [(0, 0)].as_slice(), Err(Some(4))),
+        (9, [(0, 0)].as_slice(), Err(Some(4))),
         (4, [(0, 0), (0, 0)].as_slice(), Err(Some(4))),
         (1, [].as_slice(), Err(Some(6))),
         (1, [(0, 0), (0, 0)].as_slice(), Err(Some(6))),

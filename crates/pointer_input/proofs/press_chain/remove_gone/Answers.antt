@@ -1,6 +1,5 @@
 use Rattle.std.proofs.Common.{rules}
 use Rattle.std.proofs.lemmas.Fn.{filter_same}
-use Rattle.mouse_events.specs.Chain.{is_member}
 use Rattle.pointer_input.proofs.press_chain.remove_gone.Goals as goal
 
 pub returns-clause-items : goal.returns-clause-items

@@ -12,14 +12,17 @@ use Rattle.box_tree.proofs.PlaceLemmas.{planned-resize}
 use Rattle.box_tree.proofs.page.Page.resize_viewport.Goals as goal
 
 after : (c : goal.After-self-1) → MeansEdited c.self.inside.nodes.items c.self.inside.root (resized c.args.w c.args.h c.args.max c.self.inside.viewport) c.self.inside.next c.args.self.now.contents c.args.edit.now.value
-after c = rw (← c.self.view_is) (planned-resize _ _ _ _ _ _ _ c.self.invariant
+after c = rw (← c.self.view_is) (planned-resize _ _ _ _ _ _ _ c.self.invariant.kept
     (subst (λ (page : PageState). IsPlanned (ResizeViewport c.args.w c.args.h c.args.max) c.args.edit.now.value page) (sym c.self.view_is) c.requires))
 
 pub invariant_of-self : goal.invariant_of-self
 invariant_of-self c =
     let w_is : to_z w64 (of_z w64 c.args.w) ≡ c.args.w = omega (arith, ints) in
     let h_is : to_z w64 (of_z w64 c.args.h) ≡ c.args.h = omega (arith, ints) in
-    rw (w_is, h_is, c.clamp-scroll.ensures) (after c).kept
+    record {
+      kept = rw (w_is, h_is, c.clamp-scroll.ensures) (after c).kept;
+      boxes_are = c.self.invariant.boxes_are;
+    }
 
 pub returns : goal.returns
 returns c =

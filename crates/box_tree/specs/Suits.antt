@@ -1,0 +1,87 @@
+-- What suits which kind of node: what it may hold, how many boxes it has, and which edits it takes beside an add, a remove and
+-- a move. Each of these is a table with a row for each kind (own, after CSS 2.2, 9.2: which boxes generate which).
+use Rattle.std.specs.Prelude.{ℕ, ◌==◌, nat_le, Bool, true, false, not, ◌&&◌, ◌||◌, List, [], ◌∷◌, length, Option, Some, None}
+use Rattle.computed_style.specs.declared.style.Style.{Style}
+use Rattle.computed_style.specs.Defaults.{is_empty}
+use Rattle.box_tree.specs.declared.kind.Kind.{Kind}
+use Rattle.box_tree.specs.declared.kind.Kind.TheVariants.{Block, Inline, InlineBlock, Image, Text}
+use Rattle.box_tree.specs.declared.piece.Piece.{Piece}
+use Rattle.box_tree.specs.Forest.{Label}
+
+-- what may stand in a block or in a line
+abbrev pub is_flow : Kind → Bool
+is_flow Block = true
+is_flow Inline = true
+is_flow InlineBlock = true
+is_flow Image = true
+is_flow Text = true
+
+abbrev pub is_text : Kind → Bool
+is_text Block = false
+is_text Inline = false
+is_text InlineBlock = false
+is_text Image = false
+is_text Text = true
+
+-- which kinds a node of a kind may hold as its children; none holds the root, which is a block
+abbrev pub may_hold : Option Kind → Kind → Bool
+may_hold None Block = true
+may_hold None child = false
+may_hold (Some Block) child = is_flow child
+may_hold (Some Inline) child = is_flow child
+may_hold (Some InlineBlock) child = is_flow child
+may_hold (Some Image) child = false
+may_hold (Some Text) child = false
+
+-- the kind of the parent, and none for the root
+abbrev pub parent_kind : List Label → Option Kind
+parent_kind [] = None
+parent_kind (parent ∷ above) = Some parent.kind
+
+-- whether a node with these ancestors is the root
+abbrev pub has_no_parent : List Label → Bool
+has_no_parent [] = true
+has_no_parent (parent ∷ above) = false
+
+-- whether the parent is the root
+abbrev pub is_below_root : List Label → Bool
+is_below_root [] = false
+is_below_root (parent ∷ above) = has_no_parent above
+
+-- whether a kind suits these ancestors: the parent may hold it, and the root holds no text
+abbrev pub kind_suits : List Label → Kind → Bool
+kind_suits above kind = may_hold (parent_kind above) kind && not (is_below_root above && is_text kind)
+
+-- how many boxes a node may have: the root exactly one, and every other node what its kind may
+abbrev pub box_count_suits : (is_root : Bool) → Kind → ℕ → Bool
+box_count_suits true kind count = count == 1
+box_count_suits false Block count = nat_le count 1
+box_count_suits false Inline count = true
+box_count_suits false InlineBlock count = nat_le count 1
+box_count_suits false Image count = nat_le count 1
+box_count_suits false Text count = true
+
+-- whether a node of a kind may be placed
+abbrev pub takes_place : Kind → Bool
+takes_place Block = true
+takes_place Inline = true
+takes_place InlineBlock = true
+takes_place Image = true
+takes_place Text = true
+
+-- whether a node of a kind may be given another style
+abbrev pub takes_style : Kind → Bool
+takes_style Block = true
+takes_style Inline = true
+takes_style InlineBlock = true
+takes_style Image = true
+takes_style Text = false
+
+-- with which style a node of a kind may be: one that takes no style has the empty one
+abbrev pub style_suits : Kind → Style → Bool
+style_suits kind style = takes_style kind || is_empty style
+
+-- whether a new node suits its ancestors: they may hold its kind, and its style and its number of boxes suit the kind
+abbrev pub node_suits : List Label → Kind → Style → List Piece → Bool
+node_suits above kind style boxes =
+    kind_suits above kind && (style_suits kind style && box_count_suits (has_no_parent above) kind (length boxes))

@@ -1,0 +1,318 @@
+// What suits which kind of node.
+use super::*;
+use computed_style::Position;
+
+// Each kind with the column of it in the tables below.
+const KINDS: [Kind; 5] = [
+    Kind::Block,
+    Kind::Inline,
+    Kind::InlineBlock,
+    Kind::Image,
+    Kind::Text,
+];
+
+// An add of a node of a kind with so many boxes, as the first child.
+fn node_of_kind(alloc: Global, parent: u32, kind: Kind, boxes: usize) -> Result<Edit, Fail> {
+    let mut pieces = Vec::new(alloc);
+    for _ in 0..boxes {
+        pieces.push(Piece::default())?;
+    }
+    Ok(Edit::Add {
+        parent,
+        at: 0,
+        kind,
+        boxes: PieceList(pieces),
+        style: Style::new(alloc),
+    })
+}
+
+// A page of a root 1 with a block 2, an inline 3, an inline-block 4 and an image 5, and a text 6 in the block.
+fn one_of_each(rt: &impl Abort, alloc: Global) -> Result<Page, Fail> {
+    let mut page = Page::new(alloc, 81_920, 46_080);
+    for (parent, kind, boxes, id) in [
+        (0, Kind::Block, 1, 1),
+        (1, Kind::Block, 0, 2),
+        (1, Kind::Inline, 0, 3),
+        (1, Kind::InlineBlock, 0, 4),
+        (1, Kind::Image, 0, 5),
+        (2, Kind::Text, 0, 6),
+    ] {
+        let edit = node_of_kind(alloc, parent, kind, boxes)?;
+        assert_eq!(rt; answer(rt, &mut page, &edit), Ok(id));
+    }
+    Ok(page)
+}
+
+#[test]
+fn only_a_block_with_one_box_is_a_root(rt: HostRuntime) -> Result<(), Fail> {
+    let alloc = rt.alloc();
+    for (kind, boxes, expected) in [
+        (Kind::Block, 0, Err(Some(6))),
+        (Kind::Block, 2, Err(Some(6))),
+        (Kind::Block, 1, Ok(1)),
+        (Kind::Inline, 1, Err(Some(6))),
+        (Kind::InlineBlock, 1, Err(Some(6))),
+        (Kind::Image, 1, Err(Some(6))),
+        (Kind::Text, 1, Err(Some(6))),
+    ] {
+        let mut page = Page::new(alloc, 81_920, 46_080);
+        let edit = node_of_kind(alloc, 0, kind, boxes)?;
+        assert_eq!(rt; answer(&rt, &mut page, &edit), expected, "{kind:?}");
+    }
+    Ok(())
+}
+
+// Each pair of a parent and a child, for an add and for a move of a node that is there.
+#[test]
+fn kinds_hold_one_another_by_the_table(rt: HostRuntime) -> Result<(), Fail> {
+    let alloc = rt.alloc();
+    for (parent, held) in [
+        // in the order of the kinds; the root holds no text
+        (1, [true, true, true, true, false]),
+        (2, [true, true, true, true, true]),
+        (3, [true, true, true, true, true]),
+        (4, [true, true, true, true, true]),
+        (5, [false, false, false, false, false]),
+        (6, [false, false, false, false, false]),
+    ] {
+        for (column, kind) in KINDS.iter().enumerate() {
+            let mut page = one_of_each(&rt, alloc)?;
+            let below = node_of_kind(alloc, 2, *kind, 0)?;
+            assert_eq!(rt; answer(&rt, &mut page, &below), Ok(7));
+            let edit = node_of_kind(alloc, parent, *kind, 0)?;
+            let (added, moved) = if held[column] {
+                (Ok(8), Ok(0))
+            } else {
+                (Err(Some(6)), Err(Some(6)))
+            };
+            assert_eq!(rt;
+                answer(&rt, &mut page, &edit),
+                added,
+                "{kind:?} in {parent}"
+            );
+            let edit = Edit::Move {
+                id: 7,
+                parent,
+                at: 0,
+            };
+            assert_eq!(rt;
+                answer(&rt, &mut page, &edit),
+                moved,
+                "{kind:?} to {parent}"
+            );
+        }
+    }
+    Ok(())
+}
+
+// A place and an add have so many boxes or not, by the kind.
+#[test]
+fn kinds_have_boxes_by_the_table(rt: HostRuntime) -> Result<(), Fail> {
+    let alloc = rt.alloc();
+    for (id, kind, boxes, suits) in [
+        (2, Kind::Block, 0, true),
+        (2, Kind::Block, 1, true),
+        (2, Kind::Block, 2, false),
+        (3, Kind::Inline, 0, true),
+        (3, Kind::Inline, 3, true),
+        (4, Kind::InlineBlock, 1, true),
+        (4, Kind::InlineBlock, 2, false),
+        (5, Kind::Image, 1, true),
+        (5, Kind::Image, 2, false),
+        (6, Kind::Text, 0, true),
+        (6, Kind::Text, 3, true),
+    ] {
+        let mut page = one_of_each(&rt, alloc)?;
+        let edit = node_of_kind(alloc, 2, kind, boxes)?;
+        let expected = if suits { Ok(7) } else { Err(Some(6)) };
+        assert_eq!(rt;
+            answer(&rt, &mut page, &edit),
+            expected,
+            "{kind:?} with {boxes}"
+        );
+        let Edit::Add { boxes, .. } = edit else {
+            return Ok(assert!(rt; false));
+        };
+        let edit = Edit::Place {
+            id,
+            anchor: ORIGIN,
+            boxes,
+            max: ORIGIN,
+        };
+        let expected = if suits { Ok(0) } else { Err(Some(6)) };
+        assert_eq!(rt; answer(&rt, &mut page, &edit), expected, "{kind:?}");
+    }
+    Ok(())
+}
+
+#[test]
+fn a_text_has_the_empty_style_alone(rt: HostRuntime) -> Result<(), Fail> {
+    let alloc = rt.alloc();
+    for (kind, style, expected) in [
+        (Kind::Text, Style::new(alloc), Ok(7)),
+        (
+            Kind::Text,
+            Style {
+                z: Some(0),
+                ..Style::new(alloc)
+            },
+            Err(Some(6)),
+        ),
+        (
+            Kind::Text,
+            Style {
+                display_block: true,
+                ..Style::new(alloc)
+            },
+            Err(Some(6)),
+        ),
+        (
+            Kind::Text,
+            Style {
+                visible: Some(true),
+                ..Style::new(alloc)
+            },
+            Err(Some(6)),
+        ),
+        (
+            Kind::Text,
+            Style {
+                position: Position::Static,
+                ..Style::new(alloc)
+            },
+            Ok(7),
+        ),
+        (
+            Kind::Image,
+            Style {
+                position: Position::Fixed,
+                ..Style::new(alloc)
+            },
+            Ok(7),
+        ),
+    ] {
+        let mut page = one_of_each(&rt, alloc)?;
+        let edit = Edit::Add {
+            parent: 2,
+            at: 0,
+            kind,
+            boxes: PieceList(Vec::new(alloc)),
+            style,
+        };
+        assert_eq!(rt; answer(&rt, &mut page, &edit), expected, "{edit:?}");
+    }
+    Ok(())
+}
+
+// A kind that doesn't suit comes before a cycle and a place that isn't there, and a place before too many boxes.
+#[test]
+fn kinds_are_tested_in_the_order_of_the_table(rt: HostRuntime) -> Result<(), Fail> {
+    let alloc = rt.alloc();
+    let mut page = one_of_each(&rt, alloc)?;
+    for (id, parent, at, expected) in [
+        (2, 6, 0, Err(Some(6))),
+        (6, 1, 9, Err(Some(6))),
+        (1, 5, 0, Err(Some(5))),
+        (4, 5, 0, Err(Some(6))),
+        (2, 2, 0, Err(Some(7))),
+        (6, 3, 1, Err(Some(8))),
+        (6, 3, 0, Ok(0)),
+    ] {
+        let edit = Edit::Move { id, parent, at };
+        assert_eq!(rt; answer(&rt, &mut page, &edit), expected, "{edit:?}");
+    }
+    Ok(())
+}
+
+#[test]
+fn ids_are_from_1_on(rt: HostRuntime) -> Result<(), Fail> {
+    let alloc = rt.alloc();
+    for (id, in_range) in [(0, false), (1, true), (u32::MAX, true)] {
+        assert_eq!(rt; Edit::Remove { id }.in_range(), in_range);
+        assert_eq!(rt;
+            Edit::Move {
+                id,
+                parent: 0,
+                at: 0
+            }
+            .in_range(),
+            in_range
+        );
+        let place = Edit::Place {
+            id,
+            anchor: ORIGIN,
+            boxes: PieceList(Vec::new(alloc)),
+            max: ORIGIN,
+        };
+        assert_eq!(rt; place.in_range(), in_range);
+    }
+    let add = Edit::Add {
+        parent: 0,
+        at: 0,
+        kind: Kind::Block,
+        boxes: PieceList(Vec::new(alloc)),
+        style: Style {
+            opacity: 1001,
+            ..Style::new(alloc)
+        },
+    };
+    assert!(rt; !add.in_range());
+    Ok(())
+}
+
+// 255 inlines with 1,024 boxes each, one with 1,023, and the root's: 262,144 boxes.
+#[test]
+fn a_page_has_at_most_262_144_boxes(rt: HostRuntime) -> Result<(), Fail> {
+    let alloc = rt.alloc();
+    let mut page = Page::new(alloc, 81_920, 46_080);
+    let root = node_of_kind(alloc, 0, Kind::Block, 1)?;
+    assert_eq!(rt; answer(&rt, &mut page, &root), Ok(1));
+    let too_many = node_of_kind(alloc, 1, Kind::Inline, 1025)?;
+    assert_eq!(rt; answer(&rt, &mut page, &too_many), Err(Some(10)));
+    let full = node_of_kind(alloc, 1, Kind::Inline, 1024)?;
+    for id in 2..257u32 {
+        assert_eq!(rt; answer(&rt, &mut page, &full), Ok(id));
+    }
+    assert_eq!(rt; answer(&rt, &mut page, &full), Err(Some(10)));
+    let rest = node_of_kind(alloc, 1, Kind::Inline, 1023)?;
+    assert_eq!(rt; answer(&rt, &mut page, &rest), Ok(257));
+    let bare = node_of_kind(alloc, 1, Kind::Inline, 0)?;
+    let one = node_of_kind(alloc, 1, Kind::Block, 1)?;
+    for (edit, expected) in [
+        (&one, Err(Some(10))),
+        (&bare, Ok(258)),
+        (&one, Err(Some(10))),
+    ] {
+        assert_eq!(rt; answer(&rt, &mut page, edit), expected);
+    }
+    let move_inside = Edit::Move {
+        id: 257,
+        parent: 2,
+        at: 0,
+    };
+    assert_eq!(rt; answer(&rt, &mut page, &move_inside), Ok(0));
+    for (id, corners, expected) in [
+        (258, 1, Err(Some(10))),
+        (257, 1024, Err(Some(10))),
+        (257, 1025, Err(Some(10))),
+        (257, 1023, Ok(0)),
+        (257, 1022, Ok(0)),
+        (258, 1, Ok(0)),
+        (258, 2, Err(Some(10))),
+    ] {
+        let Edit::Add { boxes, .. } = node_of_kind(alloc, 1, Kind::Inline, corners)? else {
+            return Ok(assert!(rt; false));
+        };
+        let edit = Edit::Place {
+            id,
+            anchor: ORIGIN,
+            boxes,
+            max: ORIGIN,
+        };
+        assert_eq!(rt; answer(&rt, &mut page, &edit), expected, "{id} {corners}");
+    }
+    assert_eq!(rt; answer(&rt, &mut page, &Edit::Remove { id: 2 }), Ok(0));
+    assert_eq!(rt; answer(&rt, &mut page, &full), Ok(259));
+    assert_eq!(rt; answer(&rt, &mut page, &rest), Err(Some(10)));
+    Ok(())
+}
