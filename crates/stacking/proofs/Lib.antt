@@ -9,3 +9,4 @@ pub mod OrderLemmas
 pub mod SeenLemmas
 pub mod NextLemmas
 pub mod ContextLemmas
+pub mod CountLemmas

@@ -8,7 +8,7 @@ use Rattle.std.proofs.lemmas.Bool.Decides.{nat_tests}
 use Rattle.box_tree.specs.declared.node.Node.{Node}
 use Rattle.box_tree.specs.declared.piece.Piece.{Piece}
 use Rattle.box_tree.specs.Forest.{Label, Forest, End, Grow, Placed, EachNode}
-use Rattle.box_tree.specs.Contents.{Contents, node_at, node_of, placed_of, has_id, ancestors_of, ancestor_count, parent_id, IsValid, IsGiven, IsSuited, boxes_suit}
+use Rattle.box_tree.specs.Contents.{Contents, node_at, node_of, placed_of, has_id, ancestors_of, ancestor_count, parent_id, IsValid, IsGiven, IsSuited}
 use Rattle.box_tree.specs.Kept.{label_of}
 use Rattle.box_tree.proofs.PlacedLemmas.{trees_from, trees_from-all, IsChildAt, page-at_places}
 use Rattle.box_tree.proofs.SubtreeLemmas.{at_place, place, the_child, children_is, parent_above, IsAbove}
@@ -25,10 +25,6 @@ gathered_from of_share k p = flat_map of_share (shares_of (p.label ∷ p.above) 
 -- what is gathered from a node itself
 abbrev pub shared : {A : Type 0} → (Share → List A) → Placed → List A
 shared of_share p = of_share (share_of p (shares_in p))
-
-few_suited : (above : List Label) (boxes : List Piece) → IsTrue (boxes_suit above boxes) → length boxes ≤ 1
-few_suited [] boxes suits = grind (arith, nat_tests)
-few_suited (parent ∷ above) boxes suits = grind (arith, nat_tests)
 
 module _ (page : Contents) (valid : IsValid page) (id : ℕ) (node : Node) (seen : node_of page id ≡ Some node) where
   abbrev pub here : Placed
@@ -137,4 +133,4 @@ module _ (page : Contents) (valid : IsValid page) (id : ℕ) (node : Node) (seen
   few_boxes =
       let suited = (each-placed IsSuited page.tree [] id here valid.suited found).0 in
       let boxes_are : node.boxes ≡ here.label.boxes = ap (λ (n : Node). n.boxes) (sym (at_place page valid id node seen).node_is) in
-      omega (arith, ap (λ (boxes : List Piece). length boxes) boxes_are, few_suited here.above here.label.boxes suited.boxes)
+      omega (arith, ap (λ (boxes : List Piece). length boxes) boxes_are, suited.box_count)

@@ -3,3 +3,4 @@ pub mod Painting
 pub mod OnPage
 pub mod Contexts
 pub mod Laws
+pub mod Counting

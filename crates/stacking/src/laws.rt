@@ -1,4 +1,5 @@
 //! The rules of the painting order as sentences, each the contract of a function without a body.
+ghost use Rattle.stacking.specs.Counting.{AllItemsArePainted};
 ghost use Rattle.stacking.specs.Laws.{FlatIsInParts, LinesAreInOrder, LayerIsInParts};
 
 /// A node that is painted as one gives its head, the boxes of the blocks in it, the floats in it, each painted as one, its
@@ -16,4 +17,10 @@ pub fn lines_are_in_order()
 /// lines, the members of level 0, and those of positive levels; a member that is a stacking context gives its layer.
 pub fn layer_is_in_parts()
     ensures { LayerIsInParts }
+{}
+
+/// In the layer of the root of every valid page stand just the items of the page, each as often as in the page: whatever is
+/// counted, there is as much of it.
+pub fn all_items_are_painted()
+    ensures { AllItemsArePainted }
 {}

@@ -152,7 +152,7 @@ fn layers_are_walked_in_painting_order(rt: HostRuntime) -> Result<(), Fail> {
         }
         assert!(rt; page.has(1));
         let items = layer_of(alloc, &page, 1)?;
-        let nodes = items.iter().map(|item| item.node).collect(alloc)?;
+        let nodes: Vec<u32> = items.iter().map(|item| item.node).collect(alloc)?;
         assert_eq!(rt; nodes.as_slice(), expected);
     }
     Ok(())
