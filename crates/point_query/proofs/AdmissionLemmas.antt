@@ -1,5 +1,5 @@
 -- The element of one item, by its node as a reader sees it.
-use Rattle.std.proofs.Common.{◌≡◌, ℕ, ℤ, pos, ◌*ℤ◌, [], ◌∷◌, map, Option, Some, None, Bool, true, false, cond, is_some, if◌then◌else◌, refl, ap, ◌∙◌, arith}
+use Rattle.std.proofs.Common.{◌≡◌, ℕ, ℤ, pos, ◌*ℤ◌, ◌≤ℤ◌, [], ◌∷◌, map, Option, Some, None, Bool, true, false, cond, is_some, if◌then◌else◌, refl, ap, ◌∙◌, arith}
 use Rattle.std.specs.Prelude.{int_lt}
 use Rattle.std.proofs.lemmas.Int.{ints}
 use Rattle.std.specs.Option.{option_map_or}
@@ -44,3 +44,7 @@ elements_of-seen page x y item node at seen at_is =
     by_test : (held : Bool) → map (element_of page) (cond held (item ∷ []) []) ≡ (if held then element_as node.kind node.parent node.id ∷ [] else [])
     by_test true = ap (λ (e : ℕ). e ∷ []) element_is
     by_test false = refl
+
+-- a span that begins before a coordinate holds it where it ends after it
+pub lies_between-from : (from before at : ℤ) → (pos 64 *ℤ from) ≤ℤ at → lies_between from before at ≡ int_lt at (pos 64 *ℤ before)
+lies_between-from from before at begun = grind (arith, ints)

@@ -1,5 +1,5 @@
 // Which items are admitted at a point of the viewport, and what element each of them belongs to.
-ghost use Rattle.std.specs.Prelude.{◌≡◌, ◌≤◌, ◌^◌, ◌+ℤ◌, ◌-ℤ◌, ◌∷◌, [], slice_get, unsigned_abs, false};
+ghost use Rattle.std.specs.Prelude.{◌≡◌, ◌≤◌, ◌*◌, ◌^◌, ◌+ℤ◌, ◌-ℤ◌, ◌∷◌, [], slice_get, unsigned_abs, false};
 ghost use Rattle.std.specs.Option.{option_map_or, option_to_list};
 ghost use Rattle.box_tree.specs.Contents.{IsWithin};
 ghost use Rattle.box_tree.specs.Kept.{label_of};
@@ -7,7 +7,7 @@ ghost use Rattle.point_query.specs.Elements.{elements_of, element_as, part_holds
 
 use box_tree::{Item, Kind, Node, Page, Part, Piece};
 use fractions::{Ledger, Steps};
-use spaces::{FinePoint, local_point};
+use spaces::{FinePoint, bottom_border, left_border, local_point, right_border, top_border};
 
 // The element of an item, where the item is admitted at a point of the viewport.
 pub(crate) fn admitted_element<L: Ledger>(
@@ -78,30 +78,54 @@ fn content_holds(node: &Node, at: FinePoint) -> bool
 fn padding_box_holds(node: &Node, piece: &Piece, at: FinePoint) -> bool
     ensures { result ≡ padding_box_holds (label_of node.now) piece.now at }
 {
-    let [top, right, bottom, left] = node.style.border;
-    let box_left = i128::from(piece.l);
-    let box_top = i128::from(piece.t);
-    let box_right = box_left + i128::from(piece.w);
-    let box_bottom = box_top + i128::from(piece.h);
-    lies_between(box_left + i128::from(left), box_right - i128::from(right), at.x)
-        && lies_between(box_top + i128::from(top), box_bottom - i128::from(bottom), at.y)
+    let left = sum(piece.l, left_border(node));
+    let top = sum(piece.t, top_border(node));
+    let right = less(sum(piece.l, piece.w), right_border(node));
+    let bottom = less(sum(piece.t, piece.h), bottom_border(node));
+    lies_between(left, right, at.x) && lies_between(top, bottom, at.y)
 }
 
 // Whether a border box holds a point.
 fn box_holds(piece: &Piece, at: FinePoint) -> bool
     ensures { result ≡ box_holds piece.now at }
 {
-    let box_left = i128::from(piece.l);
-    let box_top = i128::from(piece.t);
-    lies_between(box_left, box_left + i128::from(piece.w), at.x)
-        && lies_between(box_top, box_top + i128::from(piece.h), at.y)
+    let left = wide(piece.l);
+    let top = wide(piece.t);
+    let right = sum(piece.l, piece.w);
+    let bottom = sum(piece.t, piece.h);
+    lies_between(left, right, at.x) && lies_between(top, bottom, at.y)
 }
 
 // Whether a coordinate in fine units lies between two in units, from the first on and before the second.
 fn lies_between(from: i128, before: i128, at: i128) -> bool
-    requires from { unsigned_abs from ≤ 2 ^ 66 }
-    requires before { unsigned_abs before ≤ 2 ^ 66 }
+    requires from { unsigned_abs from ≤ 2 ^ 63 * 3 }
+    requires before { unsigned_abs before ≤ 2 ^ 63 * 3 }
     ensures { result ≡ lies_between from before at }
 {
     64 * from <= at && at < 64 * before
+}
+
+// A number in 128 bits.
+fn wide(a: i64) -> i128
+    ensures number { result ≡ a }
+    ensures size { unsigned_abs result ≤ 2 ^ 63 }
+{
+    i128::from(a)
+}
+
+// The sum of two numbers.
+fn sum(a: i64, b: i64) -> i128
+    ensures sum { result ≡ a +ℤ b }
+    ensures size { unsigned_abs result ≤ 2 ^ 63 * 2 }
+{
+    i128::from(a) + i128::from(b)
+}
+
+// A sum of two numbers less a third.
+fn less(sum: i128, by: i64) -> i128
+    requires { unsigned_abs sum ≤ 2 ^ 63 * 2 }
+    ensures difference { result ≡ sum -ℤ by }
+    ensures size { unsigned_abs result ≤ 2 ^ 63 * 3 }
+{
+    sum - i128::from(by)
 }

@@ -7,8 +7,8 @@ ghost use Rattle.point_query.specs.Elements.{elements_of, elements_from_point, e
 use crate::admission::admitted_element;
 use box_tree::{Item, Page, Viewport};
 use fractions::{Ledger, Steps};
-use std::alloc::Global;
 use stacking::layer_of;
+use std::alloc::Global;
 use std::collections::BTreeSet;
 use tree_edits::{Engine, OutOfMemory};
 

@@ -8,4 +8,7 @@
 
 mod space;
 
-pub use space::{FinePoint, Translation, local_point, plain_space};
+pub use space::{
+    FinePoint, Translation, bottom_border, left_border, local_point, plain_space, right_border,
+    top_border,
+};

@@ -2,7 +2,7 @@ ghost use Rattle.std.specs.Prelude.{◌≡◌, ℕ, ◌+◌, ◌*◌, ◌≤◌,
 ghost use Rattle.std.specs.Option.{option_to_list};
 ghost use Rattle.box_tree.specs.Contents.{has_id, ancestor_count, IsValid, IsWithin};
 ghost use Rattle.box_tree.specs.Kept.{label_of};
-ghost use Rattle.spaces.specs.Spaces.{top_border, left_border, moving_by, product, scrolled, padding_corner, inside, space, local_point, point_in};
+ghost use Rattle.spaces.specs.Spaces.{top_border, right_border, bottom_border, left_border, moving_by, product, scrolled, padding_corner, inside, space, local_point, point_in};
 ghost use Rattle.spaces.specs.Sizes.{IsNear};
 
 use box_tree::{Holder, Node, Page, Viewport};
@@ -132,18 +132,32 @@ fn padding_corner(node: &Node) -> Option<Translation>
     })
 }
 
-// The width of the left border.
-fn left_border(node: &Node) -> i64
-    ensures { result ≡ left_border (label_of node.now) }
-{
-    node.style.border[3]
-}
-
-// The width of the top border.
-fn top_border(node: &Node) -> i64
+/// The width of the top border, in units (CSS 2.2, 8.5.1).
+pub fn top_border(node: &Node) -> i64
     ensures { result ≡ top_border (label_of node.now) }
 {
     node.style.border[0]
+}
+
+/// The width of the right border, in units (CSS 2.2, 8.5.1).
+pub fn right_border(node: &Node) -> i64
+    ensures { result ≡ right_border (label_of node.now) }
+{
+    node.style.border[1]
+}
+
+/// The width of the bottom border, in units (CSS 2.2, 8.5.1).
+pub fn bottom_border(node: &Node) -> i64
+    ensures { result ≡ bottom_border (label_of node.now) }
+{
+    node.style.border[2]
+}
+
+/// The width of the left border, in units (CSS 2.2, 8.5.1).
+pub fn left_border(node: &Node) -> i64
+    ensures { result ≡ left_border (label_of node.now) }
+{
+    node.style.border[3]
 }
 
 // The sum of two numbers.

@@ -375,7 +375,11 @@ fn a_restyle_replaces_the_whole_style(rt: HostRuntime) -> Result<(), Fail> {
         let edit = Edit::Restyle { id, style };
         assert_eq!(rt; answer(&rt, &mut page, &edit), expected, "{edit:?}");
         assert!(rt; page.has(5));
-        assert_eq!(rt; style_with::<Brand>(&page, 5, Blank::new(1)), seen, "after {edit:?}");
+        assert_eq!(rt;
+            style_with::<Brand>(&page, 5, Blank::new(1)),
+            seen,
+            "after {edit:?}"
+        );
     }
     Ok(())
 }

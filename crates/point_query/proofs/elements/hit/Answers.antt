@@ -23,7 +23,7 @@ returns g c =
     let told = rw (x_is, y_is, c.viewport-viewport.ensures) at c.holds_point.ensures in
     let inside : is_inside page.viewport c.args.x c.args.y ≡ true = sym told ∙ c.if-not-holds_point.false in
     let elements = rw (x_is, y_is) at c.in_ok-elements.ensures in
-    let items : c.deref.result.now ≡ reverse (of_node layer page c.in-Some.root) = c.deref.ensures.value ∙ c.reverse.ensures.items ∙ ap (λ (xs : List Item). reverse xs) c.in_ok-items.ensures in
+    let items : c.deref.result.now ≡ reverse (of_node layer page c.in-Some.root) = c.deref.ensures.value ∙ c.reverse.ensures.items ∙ ap (λ (xs : List Item). reverse xs) c.in-Ok.ensures in
     c.in_ok-end_with.ensures
     ∙ ap (then_root c.in-Some.root) (c.in_ok-ids.ensures ∙ ap each_once (c.deref-2.ensures.value ∙ elements ∙ ap (elements_of page c.args.x c.args.y) items))
     ∙ sym (ap (λ (b : Bool). if b then elements_with page c.args.x c.args.y (roots_of page.tree) else []) inside ∙ ap (elements_with page c.args.x c.args.y) (sym c.in-Some.ensures.root))
