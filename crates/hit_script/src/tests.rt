@@ -13,6 +13,8 @@ use std::process::Abort;
 use std::test::Fail;
 use tree_edits::Engine;
 
+mod painting;
+
 /// A piece as large as any.
 const EVER: usize = 65536;
 
@@ -265,7 +267,7 @@ const VALUES: &[u8] =
 {"op":"add","parent":0,"at":0,"kind":"block","boxes":[[0,0,0,1,1,1]],"style":{}}
 {"op":"add","parent":0,"at":0,"kind":"block","boxes":{},"style":{}}
 {"op":"add","parent":0,"at":0,"kind":"svg","boxes":[[0,0,0,1,1]],"style":{}}
-{"op":"add","parent":0,"at":0,"kind":"block","boxes":[[0,0,0,1,1]],"style":{"z":1}}
+{"op":"add","parent":0,"at":0,"kind":"block","boxes":[[0,0,0,1,1]],"style":{"z":2147483648}}
 {"op":"add","parent":0,"at":0,"kind":"block","boxes":[[0,0,0,1,1]],"style":[]}
 {"op":"add","parent":-1,"at":0,"kind":"block","boxes":[[0,0,0,1,1]],"style":{}}
 {"op":"add","parent":4294967296,"at":0,"kind":"block","boxes":[[0,0,0,1,1]],"style":{}}
@@ -407,6 +409,15 @@ fn scripts_are_answered(rt: HostRuntime) -> Result<(), Fail> {
     assert_replies(&rt, rt.alloc(), REMOVES, REMOVES_REPLIES)?;
     assert_replies(&rt, rt.alloc(), TOPS, TOPS_REPLIES)?;
     assert_replies(&rt, rt.alloc(), PLACES, PLACES_REPLIES)?;
+    for (script, replies) in [
+        (painting::LEVELS, painting::LEVELS_REPLIES),
+        (painting::AUTO_LEVEL, painting::AUTO_LEVEL_REPLIES),
+        (painting::LINES, painting::LINES_REPLIES),
+        (painting::IMAGE, painting::IMAGE_REPLIES),
+        (painting::HOLDERS, painting::HOLDERS_REPLIES),
+    ] {
+        assert_replies(&rt, rt.alloc(), script, replies)?;
+    }
     assert_replies(&rt, rt.alloc(), LAYOUTS, LAYOUTS_REPLIES)?;
     assert_replies(&rt, rt.alloc(), ROOT, b"node 1\n")
 }

@@ -1,0 +1,78 @@
+// Pages whose order of painting was worked out by hand: scripts and their replies.
+
+/// Members of a negative level, a float, blocks, a text, and members of the levels 0 and 1.
+pub const LEVELS: &[u8] =
+    br#"{"op":"add","parent":0,"at":0,"kind":"block","boxes":[[0,0,0,100,100]],"style":{}}
+{"op":"add","parent":1,"at":0,"kind":"block","boxes":[[0,0,0,100,100]],"style":{"position":"relative","z":1}}
+{"op":"add","parent":1,"at":1,"kind":"block","boxes":[[0,0,0,100,100]],"style":{"position":"relative"}}
+{"op":"add","parent":1,"at":2,"kind":"block","boxes":[[0,0,0,100,100]],"style":{}}
+{"op":"add","parent":4,"at":0,"kind":"text","boxes":[[0,0,0,100,100]],"style":{}}
+{"op":"add","parent":1,"at":3,"kind":"block","boxes":[[0,0,0,100,100]],"style":{"float":"left"}}
+{"op":"add","parent":1,"at":4,"kind":"block","boxes":[[0,0,0,100,100]],"style":{}}
+{"op":"add","parent":1,"at":5,"kind":"block","boxes":[[0,0,0,100,100]],"style":{"position":"relative","z":-1}}
+{"op":"hit","x":50,"y":50}
+"#;
+
+pub const LEVELS_REPLIES: &[u8] =
+    b"node 1\nnode 2\nnode 3\nnode 4\nnode 5\nnode 6\nnode 7\nnode 8\nhit 2 3 4 6 7 8 1\n";
+
+/// A positioned block without a level leaves its members to the root, until it has a level.
+pub const AUTO_LEVEL: &[u8] =
+    br#"{"op":"add","parent":0,"at":0,"kind":"block","boxes":[[0,0,0,100,100]],"style":{}}
+{"op":"add","parent":1,"at":0,"kind":"block","boxes":[[0,0,0,50,50]],"style":{"position":"relative"}}
+{"op":"add","parent":2,"at":0,"kind":"block","boxes":[[0,0,0,50,50]],"style":{"position":"relative","z":5}}
+{"op":"add","parent":1,"at":1,"kind":"block","boxes":[[0,0,0,50,50]],"style":{"position":"relative","z":1}}
+{"op":"hit","x":10,"y":10}
+{"op":"style","id":2,"style":{"position":"relative","z":0}}
+{"op":"hit","x":10,"y":10}
+"#;
+
+pub const AUTO_LEVEL_REPLIES: &[u8] =
+    b"node 1\nnode 2\nnode 3\nnode 4\nhit 3 4 2 1\nok\nhit 4 3 2 1\n";
+
+/// An inline on two lines, and one inside it on the first.
+pub const LINES: &[u8] =
+    br#"{"op":"add","parent":0,"at":0,"kind":"block","boxes":[[0,0,0,100,100]],"style":{}}
+{"op":"add","parent":1,"at":0,"kind":"block","boxes":[[0,0,0,100,100]],"style":{}}
+{"op":"add","parent":2,"at":0,"kind":"inline","boxes":[[0,0,0,50,20],[1,0,10,50,20]],"style":{}}
+{"op":"add","parent":3,"at":0,"kind":"inline","boxes":[[0,0,0,50,20]],"style":{}}
+{"op":"hit","x":10,"y":15}
+{"op":"hit","x":10,"y":5}
+"#;
+
+pub const LINES_REPLIES: &[u8] = b"node 1\nnode 2\nnode 3\nnode 4\nhit 3 4 2 1\nhit 4 3 2 1\n";
+
+/// The content of an image is painted on the lines, inside its borders; the root holds no text.
+pub const IMAGE: &[u8] =
+    br#"{"op":"add","parent":0,"at":0,"kind":"block","boxes":[[0,0,0,100,100]],"style":{}}
+{"op":"add","parent":1,"at":0,"kind":"image","boxes":[[0,0,0,50,50]],"style":{"display":"block"}}
+{"op":"add","parent":1,"at":1,"kind":"block","boxes":[[0,0,0,50,50]],"style":{}}
+{"op":"hit","x":10,"y":10}
+{"op":"style","id":2,"style":{"display":"block","border":[5,5,5,5]}}
+{"op":"hit","x":2,"y":2}
+{"op":"hit","x":10,"y":10}
+{"op":"style","id":3,"style":{"opacity":999}}
+{"op":"hit","x":10,"y":10}
+{"op":"add","parent":1,"at":2,"kind":"text","boxes":[],"style":{}}
+"#;
+
+pub const IMAGE_REPLIES: &[u8] =
+    b"node 1\nnode 2\nnode 3\nhit 2 3 1\nok\nhit 3 2 1\nhit 2 3 1\nok\nhit 3 2 1\nerr 6 kind\n";
+
+/// An absolute block is placed from the nearest positioned ancestor, also after a move.
+pub const HOLDERS: &[u8] =
+    br#"{"op":"add","parent":0,"at":0,"kind":"block","boxes":[[0,0,0,100,100]],"style":{}}
+{"op":"add","parent":1,"at":0,"kind":"block","boxes":[[0,10,10,50,50]],"style":{}}
+{"op":"add","parent":2,"at":0,"kind":"block","boxes":[[0,0,0,40,40]],"style":{}}
+{"op":"add","parent":3,"at":0,"kind":"block","boxes":[[0,0,0,5,5]],"style":{"position":"absolute"}}
+{"op":"hit","x":2,"y":2}
+{"op":"style","id":2,"style":{"position":"relative"}}
+{"op":"hit","x":2,"y":2}
+{"op":"hit","x":12,"y":12}
+{"op":"move","id":3,"parent":1,"at":1}
+{"op":"hit","x":2,"y":2}
+{"op":"hit","x":12,"y":12}
+"#;
+
+pub const HOLDERS_REPLIES: &[u8] =
+    b"node 1\nnode 2\nnode 3\nnode 4\nhit 4 1\nok\nhit 1\nhit 4 3 2 1\nok\nhit 4 3 1\nhit 2 3 1\n";
