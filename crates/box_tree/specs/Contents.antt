@@ -1,6 +1,5 @@
 -- The contents of a page, what is read of it, and when it is valid.
-use Rattle.std.specs.Prelude.{ℕ, ◌+◌, ◌<◌, ◌≤◌, ◌^◌, List, [], ◌∷◌, length, Option, Bool, not, ◌==◌, nat_le, is_some, IsTrue, ℤ, pos, ◌≤ℤ◌, ◌+ℤ◌, neg_ℤ, map, All}
-use Rattle.std.specs.List.{filter}
+use Rattle.std.specs.Prelude.{ℕ, ◌+◌, ◌<◌, ◌≤◌, ◌^◌, List, [], ◌∷◌, length, Option, Bool, not, nat_le, is_some, IsTrue, ℤ, pos, ◌≤ℤ◌, ◌+ℤ◌, neg_ℤ, map, All}
 use Rattle.std.specs.Option.{option_map, option_map_or}
 use Rattle.fractions.specs.declared.rect.Spot.{Spot}
 use Rattle.computed_style.specs.declared.style.Style.{Style}
@@ -12,7 +11,7 @@ use Rattle.box_tree.specs.declared.node.Node.{Node}
 use Rattle.box_tree.specs.declared.viewport.Viewport.{Viewport}
 use Rattle.box_tree.specs.Suits.{has_no_parent, kind_suits, box_count_suits, style_suits}
 use Rattle.box_tree.specs.Totals.{box_count}
-use Rattle.box_tree.specs.Forest.{Label, Forest, End, Grow, roots_of, tree_order, node_count, height_of, occurrences, Placed, placed_in, EachNode}
+use Rattle.box_tree.specs.Forest.{Label, Forest, End, Grow, roots_of, node_count, height_of, occurrences, Placed, placed_in, EachNode}
 
 -- what a page holds: a tree of nodes or none, the viewport and the next id
 pub record Contents : Type 0 where
@@ -71,19 +70,6 @@ node_of page id = option_map node_at (placed_of page id)
 -- whether the id is in the page
 abbrev pub has_id : Contents → ℕ → Bool
 has_id page id = is_some (placed_of page id)
-
--- the containing blocks of a node with these ancestors, nearest first, each the nearest block container above the one
--- before it (CSS 2.2, 10.1): every node is a block, and so a block container
-abbrev pub containing_block_chain : List Label → List Label
-containing_block_chain above = above
-
--- whether a node has a box
-abbrev pub has_box : Label → Bool
-has_box n = not (length n.boxes == 0)
-
--- the items in tree order, by the ids of their nodes: each node that has a box is one
-abbrev pub items_of : Contents → List ℕ
-items_of page = map (λ n. n.id) (filter has_box (tree_order page.tree))
 
 -- the point 0, 0
 abbrev pub origin : Spot

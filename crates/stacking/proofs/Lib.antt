@@ -10,3 +10,4 @@ pub mod SeenLemmas
 pub mod NextLemmas
 pub mod ContextLemmas
 pub mod CountLemmas
+pub mod OnceLemmas

@@ -1,6 +1,8 @@
 -- How often items stand in lists.
-use Rattle.std.specs.Prelude.{◌≡◌, ℕ, ◌+◌, ◌≤◌, List, [], ◌∷◌, ◌++◌, Bool, if◌then◌else◌}
+use Rattle.std.specs.Prelude.{◌≡◌, ℕ, ◌+◌, ◌≤◌, ◌==◌, ◌&&◌, List, [], ◌∷◌, ◌++◌, Bool, true, false, if◌then◌else◌}
 use Rattle.box_tree.specs.declared.item.Item.{Item}
+use Rattle.box_tree.specs.declared.item.Part.{Part}
+use Rattle.box_tree.specs.declared.item.Part.TheVariants.{Box, Content, Outline}
 use Rattle.box_tree.specs.Forest.{Label, Forest, End, Grow}
 use Rattle.box_tree.specs.Contents.{Contents, IsValid}
 use Rattle.stacking.specs.Painting.{own, content, layer}
@@ -27,3 +29,23 @@ root_layer (Grow n below others) = layer (record { label = n; above = []; below 
 -- counted, there is as much of it
 abbrev pub AllItemsArePainted : Type 0
 AllItemsArePainted = (page : Contents) → IsValid page → (test : Item → Bool) → count test (root_layer page.tree) ≡ count test (items_in [] page.tree)
+
+-- whether two parts of a node are the same
+abbrev pub is_part : Part → Part → Bool
+is_part (Box place) (Box other) = place == other
+is_part (Box place) Content = false
+is_part (Box place) Outline = false
+is_part Content (Box other) = false
+is_part Content Content = true
+is_part Content Outline = false
+is_part Outline (Box other) = false
+is_part Outline Content = false
+is_part Outline Outline = true
+
+-- whether two items are the same
+abbrev pub is_item : Item → Item → Bool
+is_item item other = (other.node == item.node) && is_part item.part other.part
+
+-- in the layer of the root of a valid page no item stands twice
+abbrev pub EachItemIsPaintedOnce : Type 0
+EachItemIsPaintedOnce = (page : Contents) → IsValid page → (item : Item) → count (is_item item) (root_layer page.tree) ≤ 1

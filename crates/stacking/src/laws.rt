@@ -1,5 +1,5 @@
 //! The rules of the painting order as sentences, each the contract of a function without a body.
-ghost use Rattle.stacking.specs.Counting.{AllItemsArePainted};
+ghost use Rattle.stacking.specs.Counting.{AllItemsArePainted, EachItemIsPaintedOnce};
 ghost use Rattle.stacking.specs.Laws.{FlatIsInParts, LinesAreInOrder, LayerIsInParts};
 
 /// A node that is painted as one gives its head, the boxes of the blocks in it, the floats in it, each painted as one, its
@@ -23,4 +23,9 @@ pub fn layer_is_in_parts()
 /// counted, there is as much of it.
 pub fn all_items_are_painted()
     ensures { AllItemsArePainted }
+{}
+
+/// In the layer of the root of every valid page no item stands twice.
+pub fn each_item_is_painted_once()
+    ensures { EachItemIsPaintedOnce }
 {}
