@@ -14,18 +14,33 @@ const KINDS: [Kind; 5] = [
     Kind::Text,
 ];
 
-// An add of a node of a kind with so many boxes, as the first child.
-fn node_of_kind(alloc: Global, parent: u32, kind: Kind, boxes: usize) -> Result<Edit, Fail> {
+// So many boxes.
+fn boxes_of(alloc: Global, count: usize) -> Result<PieceList, Fail> {
     let mut pieces = Vec::new(alloc);
-    for _ in 0..boxes {
+    for _ in 0..count {
         pieces.push(Piece::default())?;
     }
+    Ok(PieceList(pieces))
+}
+
+// An add of a node of a kind with so many boxes, as the first child.
+fn node_of_kind(alloc: Global, parent: u32, kind: Kind, boxes: usize) -> Result<Edit, Fail> {
     Ok(Edit::Add {
         parent,
         at: 0,
         kind,
-        boxes: PieceList(pieces),
+        boxes: boxes_of(alloc, boxes)?,
         style: Style::new(alloc),
+    })
+}
+
+// A place of a node with so many boxes.
+fn place_of(alloc: Global, id: u32, boxes: usize) -> Result<Edit, Fail> {
+    Ok(Edit::Place {
+        id,
+        anchor: ORIGIN,
+        boxes: boxes_of(alloc, boxes)?,
+        max: ORIGIN,
     })
 }
 
@@ -127,23 +142,15 @@ fn kinds_have_boxes_by_the_table(rt: HostRuntime) -> Result<(), Fail> {
     ] {
         let mut page = one_of_each(&rt, alloc)?;
         let edit = node_of_kind(alloc, 2, kind, boxes)?;
-        let expected = if suits { Ok(7) } else { Err(Some(6)) };
+        let added = if suits { Ok(7) } else { Err(Some(6)) };
         assert_eq!(rt;
             answer(&rt, &mut page, &edit),
-            expected,
+            added,
             "{kind:?} with {boxes}"
         );
-        let Edit::Add { boxes, .. } = edit else {
-            return Ok(assert!(rt; false));
-        };
-        let edit = Edit::Place {
-            id,
-            anchor: ORIGIN,
-            boxes,
-            max: ORIGIN,
-        };
-        let expected = if suits { Ok(0) } else { Err(Some(6)) };
-        assert_eq!(rt; answer(&rt, &mut page, &edit), expected, "{kind:?}");
+        let edit = place_of(alloc, id, boxes)?;
+        let placed = if suits { Ok(0) } else { Err(Some(6)) };
+        assert_eq!(rt; answer(&rt, &mut page, &edit), placed, "{kind:?}");
     }
     Ok(())
 }
@@ -265,61 +272,99 @@ fn ids_are_from_1_on(rt: HostRuntime) -> Result<(), Fail> {
     Ok(())
 }
 
-// 255 inlines with 1,024 boxes each, one with 1,023, and the root's: 262,144 boxes.
+// A page of a root with a box and 255 inlines with 1,024 boxes each.
+fn page_of_many_boxes(rt: &impl Abort, alloc: Global) -> Result<Page, Fail> {
+    let mut page = Page::new(alloc, 81_920, 46_080);
+    let root = node_of_kind(alloc, 0, Kind::Block, 1)?;
+    assert_eq!(rt; answer(rt, &mut page, &root), Ok(1));
+    let full = node_of_kind(alloc, 1, Kind::Inline, 1024)?;
+    for id in 2..257u32 {
+        assert_eq!(rt; answer(rt, &mut page, &full), Ok(id));
+    }
+    Ok(page)
+}
+
+// Compares the answers to adds of inlines with so many boxes.
+fn compare_adds(
+    rt: &impl Abort,
+    alloc: Global,
+    page: &mut Page,
+    rows: &[(usize, Result<u32, Option<u8>>)],
+) -> Result<(), Fail> {
+    for (boxes, expected) in rows {
+        let edit = node_of_kind(alloc, 1, Kind::Inline, *boxes)?;
+        assert_eq!(rt; answer(rt, page, &edit), *expected, "{boxes}");
+    }
+    Ok(())
+}
+
+// Compares the answers to places of nodes with so many boxes.
+fn compare_places(
+    rt: &impl Abort,
+    alloc: Global,
+    page: &mut Page,
+    rows: &[(u32, usize, Result<u32, Option<u8>>)],
+) -> Result<(), Fail> {
+    for (id, boxes, expected) in rows {
+        let edit = place_of(alloc, *id, *boxes)?;
+        assert_eq!(rt; answer(rt, page, &edit), *expected, "{id} {boxes}");
+    }
+    Ok(())
+}
+
+#[test]
+fn a_node_has_at_most_1_024_boxes(rt: HostRuntime) -> Result<(), Fail> {
+    let alloc = rt.alloc();
+    let mut page = one_of_each(&rt, alloc)?;
+    compare_adds(
+        &rt,
+        alloc,
+        &mut page,
+        &[(1025, Err(Some(10))), (1024, Ok(7))],
+    )?;
+    compare_places(
+        &rt,
+        alloc,
+        &mut page,
+        &[(3, 1025, Err(Some(10))), (3, 1024, Ok(0))],
+    )
+}
+
+// With an inline of 1,023 boxes more the page has 262,144.
 #[test]
 fn a_page_has_at_most_262_144_boxes(rt: HostRuntime) -> Result<(), Fail> {
     let alloc = rt.alloc();
-    let mut page = Page::new(alloc, 81_920, 46_080);
-    let root = node_of_kind(alloc, 0, Kind::Block, 1)?;
-    assert_eq!(rt; answer(&rt, &mut page, &root), Ok(1));
-    let too_many = node_of_kind(alloc, 1, Kind::Inline, 1025)?;
-    assert_eq!(rt; answer(&rt, &mut page, &too_many), Err(Some(10)));
-    let full = node_of_kind(alloc, 1, Kind::Inline, 1024)?;
-    for id in 2..257u32 {
-        assert_eq!(rt; answer(&rt, &mut page, &full), Ok(id));
-    }
-    assert_eq!(rt; answer(&rt, &mut page, &full), Err(Some(10)));
-    let rest = node_of_kind(alloc, 1, Kind::Inline, 1023)?;
-    assert_eq!(rt; answer(&rt, &mut page, &rest), Ok(257));
-    let bare = node_of_kind(alloc, 1, Kind::Inline, 0)?;
-    let one = node_of_kind(alloc, 1, Kind::Block, 1)?;
-    for (edit, expected) in [
-        (&one, Err(Some(10))),
-        (&bare, Ok(258)),
-        (&one, Err(Some(10))),
-    ] {
-        assert_eq!(rt; answer(&rt, &mut page, edit), expected);
-    }
-    let move_inside = Edit::Move {
+    let mut page = page_of_many_boxes(&rt, alloc)?;
+    let adds = [
+        (1024, Err(Some(10))),
+        (1023, Ok(257)),
+        (1, Err(Some(10))),
+        (0, Ok(258)),
+        (1, Err(Some(10))),
+    ];
+    compare_adds(&rt, alloc, &mut page, &adds)?;
+    let inside = Edit::Move {
         id: 257,
         parent: 2,
         at: 0,
     };
-    assert_eq!(rt; answer(&rt, &mut page, &move_inside), Ok(0));
-    for (id, corners, expected) in [
+    assert_eq!(rt; answer(&rt, &mut page, &inside), Ok(0));
+    let places = [
         (258, 1, Err(Some(10))),
         (257, 1024, Err(Some(10))),
-        (257, 1025, Err(Some(10))),
         (257, 1023, Ok(0)),
         (257, 1022, Ok(0)),
         (258, 1, Ok(0)),
         (258, 2, Err(Some(10))),
-    ] {
-        let Edit::Add { boxes, .. } = node_of_kind(alloc, 1, Kind::Inline, corners)? else {
-            return Ok(assert!(rt; false));
-        };
-        let edit = Edit::Place {
-            id,
-            anchor: ORIGIN,
-            boxes,
-            max: ORIGIN,
-        };
-        assert_eq!(rt; answer(&rt, &mut page, &edit), expected, "{id} {corners}");
-    }
+    ];
+    compare_places(&rt, alloc, &mut page, &places)?;
     assert_eq!(rt; answer(&rt, &mut page, &Edit::Remove { id: 2 }), Ok(0));
-    assert_eq!(rt; answer(&rt, &mut page, &full), Ok(259));
-    assert_eq!(rt; answer(&rt, &mut page, &rest), Err(Some(10)));
-    Ok(())
+    compare_adds(
+        &rt,
+        alloc,
+        &mut page,
+        &[(1024, Ok(259)), (1023, Err(Some(10)))],
+    )
 }
 
 // The whole style of a node.
