@@ -10,9 +10,9 @@ use std::alloc::Global;
 use std::process::Abort;
 use std::test::Fail;
 
-fn boxes_at(alloc: Global, corners: &[(i64, i64)]) -> Result<PieceList, Fail> {
+fn box_at(alloc: Global, corner: Option<(i64, i64)>) -> Result<PieceList, Fail> {
     let mut pieces = Vec::new(alloc);
-    for &(l, t) in corners {
+    if let Some((l, t)) = corner {
         pieces.push(Piece {
             line: 0,
             l,
@@ -31,7 +31,7 @@ fn add(
     kind: Kind,
     position: Position,
     border: [i64; 4],
-    corners: &[(i64, i64)],
+    corner: Option<(i64, i64)>,
 ) -> Result<Edit, Fail> {
     let mut style = Style::new(alloc);
     style.position = position;
@@ -40,7 +40,7 @@ fn add(
         parent,
         at: 0,
         kind,
-        boxes: boxes_at(alloc, corners)?,
+        boxes: box_at(alloc, corner)?,
         style,
     })
 }
@@ -53,31 +53,37 @@ fn apply(rt: &impl Abort, page: &mut Page, edit: &Edit) -> Result<(), Fail> {
     Ok(())
 }
 
+// The anchor of a node.
+fn anchor(rt: &impl Abort, alloc: Global, page: &mut Page, id: u32, by: Spot) -> Result<(), Fail> {
+    let edit = Edit::Place {
+        id,
+        anchor: by,
+        boxes: box_at(alloc, None)?,
+        max: Spot { x: 0, y: 0 },
+    };
+    apply(rt, page, &edit)
+}
+
 // A page whose blocks have borders and whose node 8 has an anchor.
 fn bordered(rt: &impl Abort, alloc: Global) -> Result<Page, Fail> {
     let none = [0, 0, 0, 0];
-    let edits = vec![in alloc;
-        add(alloc, 0, Block, Static, [1, 2, 3, 4], &[(10, 20)])?,
-        add(alloc, 1, Block, Static, none, &[(5, 6)])?,
-        add(alloc, 2, Inline, Relative, [2, 0, 0, 3], &[(7, 8)])?,
-        add(alloc, 3, Block, Absolute, none, &[(0, 0)])?,
-        add(alloc, 3, Text, Static, none, &[])?,
-        add(alloc, 4, Block, Fixed, [9, 9, 9, 8], &[(100, 200)])?,
-        add(alloc, 6, Block, Static, none, &[(1, 1)])?,
-        add(alloc, 7, Block, Static, [5, 5, 5, 5], &[])?,
-        add(alloc, 8, Block, Static, none, &[])?,
-        add(alloc, 9, Inline, Absolute, none, &[])?,
-        Edit::Place {
-            id: 8,
-            anchor: Spot { x: -3, y: 4 },
-            boxes: boxes_at(alloc, &[])?,
-            max: Spot { x: 0, y: 0 },
-        },
-    ]?;
     let mut page = Page::new(alloc, 81_920, 46_080);
-    for edit in &edits {
-        apply(rt, &mut page, edit)?;
+    for (parent, kind, position, border, corner) in [
+        (0, Block, Static, [1, 2, 3, 4], Some((10, 20))),
+        (1, Block, Static, none, Some((5, 6))),
+        (2, Inline, Relative, [2, 0, 0, 3], Some((7, 8))),
+        (3, Block, Absolute, none, Some((0, 0))),
+        (3, Text, Static, none, None),
+        (4, Block, Fixed, [9, 9, 9, 8], Some((100, 200))),
+        (6, Block, Static, none, Some((1, 1))),
+        (7, Block, Static, [5, 5, 5, 5], None),
+        (8, Block, Static, none, None),
+        (9, Inline, Absolute, none, None),
+    ] {
+        let edit = add(alloc, parent, kind, position, border, corner)?;
+        apply(rt, &mut page, &edit)?;
     }
+    anchor(rt, alloc, &mut page, 8, Spot { x: -3, y: 4 })?;
     Ok(page)
 }
 
