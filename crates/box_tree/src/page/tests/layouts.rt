@@ -6,7 +6,7 @@ use super::*;
 use fractions::Spot;
 
 // A place of a node by its anchor, the corners of its boxes and its greatest scroll.
-fn place(
+pub(super) fn place(
     alloc: Global,
     id: u32,
     anchor: (i64, i64),
@@ -21,7 +21,7 @@ fn place(
     })
 }
 
-fn spot(at: (i64, i64)) -> Spot {
+pub(super) fn spot(at: (i64, i64)) -> Spot {
     Spot { x: at.0, y: at.1 }
 }
 

@@ -1,6 +1,6 @@
 // Edits that are taken back, and then carried out.
+use super::layouts::{place, spot};
 use super::*;
-use fractions::Spot;
 
 // Whether two nodes are alike.
 fn is_same(a: &Node, b: &Node) -> bool {
@@ -36,31 +36,21 @@ fn revert(rt: &impl Abort, page: &mut Page, edit: &Edit) {
     }
 }
 
-// A place of a node with two boxes, the one of a root with one.
-fn place(alloc: Global, id: u32, x: i64, corners: &[(i64, i64)]) -> Result<Edit, Fail> {
-    Ok(Edit::Place {
-        id,
-        anchor: Spot { x, y: -x },
-        boxes: boxes_at(alloc, corners)?,
-        max: Spot { x, y: 2 * x },
-    })
-}
-
 // An edit of each kind, and edits of trees of several nodes.
 fn each_kind(alloc: Global) -> Result<Vec<Edit>, Fail> {
     let mut edits = Vec::new(alloc);
     for (parent, at) in [(0, 0), (1, 0), (1, 1), (1, 1), (2, 0), (5, 0), (5, 1)] {
         edits.push(block(alloc, parent, at, [(1, 2)].as_slice())?)?;
     }
-    edits.push(place(alloc, 1, 7, [(3, 4)].as_slice())?)?;
-    edits.push(place(alloc, 5, 9, [].as_slice())?)?;
+    edits.push(place(alloc, 1, (7, -7), [(3, 4)].as_slice(), (5, 6))?)?;
+    edits.push(place(alloc, 5, (9, 8), [].as_slice(), (0, 2))?)?;
     let mut style = Style::new(alloc);
     style.floats = true;
     edits.push(Edit::Restyle { id: 5, style })?;
     edits.push(Edit::Resize {
         w: 64,
         h: 128,
-        max: Spot { x: 3, y: 4 },
+        max: spot((3, 4)),
     })?;
     for (id, parent, at) in [(2, 4, 0), (5, 1, 1), (3, 1, 0), (4, 5, 2)] {
         edits.push(Edit::Move { id, parent, at })?;
