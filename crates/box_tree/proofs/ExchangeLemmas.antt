@@ -11,12 +11,12 @@ use Rattle.box_tree.specs.declared.plan.Change.{Change}
 use Rattle.box_tree.specs.declared.plan.Change.TheVariants.{Layout, Style}
 use Rattle.box_tree.specs.declared.plan.Relocation.{Relocation}
 use Rattle.box_tree.specs.Change.{changed}
-use Rattle.box_tree.specs.Kept.{node_with, with_label}
+use Rattle.box_tree.specs.Kept.{node_with, with_children, with_label}
 use Rattle.box_tree.specs.Nodes.{NodesState, HasSameRoom, changed_at, ChangesAt}
-use Rattle.box_tree.specs.Planned.{is_among, times_in, relocated, relocated_at}
+use Rattle.box_tree.specs.Planned.{is_among, times_in, relocated, relocated_at, MayRelocate, MayRelocateAll}
 use Rattle.box_tree.specs.Taken.{ids_of, AreFrom, CanBePut}
 use Rattle.box_tree.proofs.CountLemmas.{among-times, times_in-append, length-ids_of}
-use Rattle.box_tree.proofs.KeptLemmas.{node_with-push, changed-here, changed-other, relocated-among, relocated-apart}
+use Rattle.box_tree.proofs.KeptLemmas.{node_with-push, changed-none, changed-here, changed-other, relocated-among, relocated-apart}
 
 -- no node is looked up where one was taken
 pub absent_at : (taken look : ℕ → Option Node) (id id' : ℕ) → ((k : ℕ) → taken k ≡ (if id == k then None else look k)) → id' ≡ id → taken id' ≡ None
@@ -76,23 +76,56 @@ pub record RelocatesUpTo (old now : NodesState) (r : Relocation) (ids rest : Lis
   pub looked_up : (k : ℕ) → relocated_at r rest k (node_with now.nodes k) ≡ relocated_at r ids k (node_with old.nodes k)
   pub count : length now.nodes ≡ length old.nodes
   pub same_room : HasSameRoom old now
-  pub once : (k : ℕ) → times_in k rest ≤ 1
+  pub may : MayRelocateAll r rest (node_with now.nodes)
 
-pub relocates_none : (old : NodesState) (r : Relocation) (ids : List ℕ) → ((k : ℕ) → times_in k ids ≤ 1) → RelocatesUpTo old old r ids ids
-relocates_none old r ids once = record { looked_up = λ k. refl; count = refl; same_room = record { room = refl; ids = refl }; once = once }
+pub relocates_none : (old : NodesState) (r : Relocation) (ids : List ℕ) → MayRelocateAll r ids (node_with old.nodes) → RelocatesUpTo old old r ids ids
+relocates_none old r ids may = record { looked_up = λ k. refl; count = refl; same_room = record { room = refl; ids = refl }; may = may }
+
+-- the next node may be relocated
+pub relocates_next : (old now : NodesState) (r : Relocation) (ids rest : List ℕ) (id : ℕ) → RelocatesUpTo old now r ids (id ∷ rest) → (n : Node) → node_with now.nodes id ≡ Some n → MayRelocate r n
+relocates_next old now r ids rest id so n found = so.may.each id (grind (arith, nat_tests)) n found
+
+-- other children change nothing of that
+pub may_relocate_changed : (r : Relocation) (ids : List ℕ) (look look' : ℕ → Option Node) (parent : ℕ) (children : List ℕ) → MayRelocateAll r ids look → ((k : ℕ) → look' k ≡ changed_at parent (with_children children) k (look k)) → MayRelocateAll r ids look'
+may_relocate_changed r ids look look' parent children may known = record {
+  once = may.once;
+  each = λ k among n found. by_look k among n (look k) refl (sym (known k) ∙ found);
+}
+  where
+    by_look : (k : ℕ) → is_among ids k ≡ true → (n : Node) → (o : Option Node) → look k ≡ o → changed_at parent (with_children children) k o ≡ Some n → MayRelocate r n
+    by_look k among n None is found = absurd (none_some (sym (changed-none parent (with_children children) k) ∙ found))
+      where
+        none_some : None ≡ Some n → ⊥
+        none_some is' = cc
+    by_look k among n (Some m) is found = by_test (parent == k) found
+      where
+        was : MayRelocate r m
+        was = may.each k among m is
+
+        by_test : (b : Bool) → (if b then option_map (with_children children) (Some m) else Some m) ≡ Some n → MayRelocate r n
+        by_test true same =
+            let depth_is : m.depth ≡ n.depth = (let n_is : with_children children m ≡ n = cc in ap (λ (x : Node). x.depth) n_is) in
+            record { least = omega (arith, was.least, depth_is); most = omega (arith, was.most, depth_is); new_most = was.new_most }
+        by_test false same = let n_is : m ≡ n = cc in subst (MayRelocate r) n_is was
 
 pub relocates_more : (old now new : NodesState) (r : Relocation) (ids rest : List ℕ) (id : ℕ) → RelocatesUpTo old now r ids (id ∷ rest) → ChangesAt now new id (relocated r) → RelocatesUpTo old new r ids rest
 relocates_more old now new r ids rest id so changes = record {
   looked_up = λ k. ap (relocated_at r rest k) (changes.looked_up k) ∙ one_more k ∙ so.looked_up k;
   count = changes.count ∙ so.count;
   same_room = record { room = changes.same_room.room ∙ so.same_room.room; ids = changes.same_room.ids ∙ so.same_room.ids };
-  once = rest_once id rest so.once;
+  may = record {
+    once = rest_once id rest so.may.once;
+    each = λ k among n found.
+        let other : id ≢ k = (λ here. false≢true (sym (first_once id rest so.may.once) ∙ ap (is_among rest) here ∙ among)) in
+        let among' : is_among (id ∷ rest) k ≡ true = grind (arith, nat_tests) in
+        so.may.each k among' n (sym (changed-other id (relocated r) k (node_with now.nodes k) other) ∙ sym (changes.looked_up k) ∙ found);
+  };
 }
   where
     one_more : (k : ℕ) → relocated_at r rest k (changed_at id (relocated r) k (node_with now.nodes k)) ≡ relocated_at r (id ∷ rest) k (node_with now.nodes k)
     one_more k = elim (cases_eq id k) [
       | inl here ↦
-          let apart : is_among rest k ≡ false = ap (is_among rest) (sym here) ∙ first_once id rest so.once in
+          let apart : is_among rest k ≡ false = ap (is_among rest) (sym here) ∙ first_once id rest so.may.once in
           let among : is_among (id ∷ rest) k ≡ true = grind (arith, nat_tests) in
           relocated-apart r rest k (changed_at id (relocated r) k (node_with now.nodes k)) apart ∙ changed-here id (relocated r) k (node_with now.nodes k) here ∙ sym (relocated-among r (id ∷ rest) k (node_with now.nodes k) among)
       | inr other ↦

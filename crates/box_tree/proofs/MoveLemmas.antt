@@ -1,6 +1,6 @@
 -- A page with a node moved, and all below it: what no fault means, that it is valid, and that it is what the nodes mean
 -- once they are relocated.
-use Rattle.std.proofs.Common.{◌≡◌, ◌≢◌, ℕ, ◌+◌, ◌-◌, ◌^◌, ◌<◌, ◌≤◌, ◌==◌, min, List, [], ◌∷◌, ◌++◌, length, Option, Some, None, is_some, true, false, Bool, not, if◌then◌else◌, refl, sym, ap, ◌∙◌, subst, inl, inr, arith, length-append}
+use Rattle.std.proofs.Common.{◌≡◌, ◌≢◌, ◌⊎◌, ℕ, ◌+◌, ◌-◌, ◌<◌, ◌≤◌, ◌==◌, List, [], ◌∷◌, ◌++◌, length, Option, Some, None, is_some, true, false, Bool, not, if◌then◌else◌, refl, sym, ap, ◌∙◌, subst, inl, inr, arith, length-append}
 use mathlib.Core.Bool.{false≢true}
 use Rattle.std.specs.Prelude.{nat_lt, ◌||◌}
 use Rattle.std.specs.Option.{option_or, option_map, option_map_or}
@@ -22,13 +22,13 @@ use Rattle.box_tree.specs.Totals.{box_count}
 use Rattle.box_tree.specs.Edited.{kind_may_move, taken_out, put_below, moved, edited, page_without, is_root, ancestors_below, child_count, first_fault, faults_of}
 use Rattle.box_tree.specs.Kept.{node_with, with_children, IsKept}
 use Rattle.box_tree.specs.Nodes.{NodesState, changed_at, HasSameRoom}
-use Rattle.box_tree.specs.Planned.{ids_without, is_among, times_in, children_without, relocated, relocated_at, moved_at, back_from, IsPlaceFor, IsPlanned}
+use Rattle.box_tree.specs.Planned.{ids_without, is_among, times_in, children_without, relocated, relocated_at, moved_at, back_from, MayRelocate, MayRelocateAll, IsPlaceFor, IsPlanned}
 use Rattle.box_tree.proofs.ForestLemmas.{single, placed_in-head, placed_in-present, node_in, with_child, ancestors_in, if_map, or-none, node_in-cons, node_in-absent, node_in-put_below, occurrences-put_below, roots-put_below, node_count-put_below}
-use Rattle.box_tree.proofs.PutLemmas.{each-put_below, height-put_below}
+use Rattle.box_tree.proofs.PutLemmas.{given-absent, each-put_below, height-put_below}
 use Rattle.box_tree.proofs.KeptLemmas.{changed-here, changed-other, child_more, children-back, relocated-among, relocated-apart, relocated-changed}
 use Rattle.box_tree.proofs.AddLemmas.{none_holds, not_false, once_there}
 use Rattle.box_tree.proofs.CountLemmas.{times_in-ids_in}
-use Rattle.box_tree.proofs.PlacedLemmas.{id-placed_in, page-at_places, found-at_places, AreAtPlaces, depth-placed_in}
+use Rattle.box_tree.proofs.PlacedLemmas.{id-placed_in, page-at_places, found-at_places, AreAtPlaces, depth-placed_in, seen_at}
 use Rattle.box_tree.proofs.PlanLemmas.{state_of, Carries, carries}
 use Rattle.box_tree.proofs.SubtreeLemmas.{Head, Deeper, Beside, found_in, IsAbove, parent_above, placed-at_places, is_among-ids_in}
 use Rattle.box_tree.proofs.TakenLemmas.{height-taken_out, each-taken_out, roots-taken_out, length-ids_without, place_without, placed_in-taken_out, occurrences-parted, node_count-parted}
@@ -284,8 +284,8 @@ module _ (page : Contents) (valid : IsValid page) (id parent at : ℕ) (q : Plac
         let placed = placed-at_places page moved_tree q.above k moved_at_places some in
         by_place (placed_of page k) refl (λ p is_placed. sym placed ∙ is_placed)
       where
-        depth_back : (d old new : ℕ) → old ≤ d → d ≤ 256 → new ≤ 256 → min (min (d - old + new) (2 ^ 32 - 1) - new + old) (2 ^ 32 - 1) ≡ d
-        depth_back d old new least most new_most = omega arith
+        depth_back : (d old new : ℕ) → old ≤ d → d - old + new - new + old ≡ d
+        depth_back d old new least = omega arith
 
         parent_back : (p : Placed) → placed_of page k ≡ Some p → (b : Bool) → (p.label.id == r.id) ≡ b → (if b then r.from else (if b then r.parent else parent_id p.above)) ≡ parent_id p.above
         parent_back p is_placed false is_other = refl
@@ -299,10 +299,30 @@ module _ (page : Contents) (valid : IsValid page) (id parent at : ℕ) (q : Plac
         by_place None is_placed in_tree = refl
         by_place (Some p) is_placed in_tree =
             let least = above-placed_in moved_tree q.above k p (in_tree p is_placed) in
-            let most = depth-placed_in page.tree [] k p is_placed in
             ap Some (with_both (node_at p) _ _ _ _
             (parent_back p is_placed (p.label.id == r.id) refl)
-            (depth_back (1 + length p.above) r.old_depth r.depth (omega (arith, least, old_depth_is)) (omega (arith, most, valid.depth)) (omega (arith, new_depth_is, levels_fit))))
+            (depth_back (1 + length p.above) r.old_depth r.depth (omega (arith, least, old_depth_is))))
+
+    -- the nodes of the moved tree may be relocated
+    pub may_relocate : MayRelocateAll r ids (node_of page)
+    may_relocate = record {
+      once = λ k. omega (arith, ap (times_in k) ids_is, times_in-ids_in (tree_of page id) k, occurrences-parted page.tree [] id k (valid.distinct id), valid.distinct k);
+      each = λ k among n seen. by_place k among n (placed_of page k) refl seen;
+    }
+      where
+        by_place : (k : ℕ) → is_among ids k ≡ true → (n : Node) → (o : Option Placed) → placed_of page k ≡ o → option_map node_at o ≡ Some n → MayRelocate r n
+        by_place k among n None is_placed seen = absurd cc
+        by_place k among n (Some p) is_placed seen =
+            let is : nat_lt 0 (occurrences moved_tree k) ≡ true = sym (ids_are k ∙ ap (λ f. nat_lt 0 (occurrences f k)) tree_is) ∙ among in
+            let some : 0 < occurrences moved_tree k = grind (arith, nat_tests) in
+            let least = above-placed_in moved_tree q.above k p (sym (placed-at_places page moved_tree q.above k moved_at_places some) ∙ is_placed) in
+            let most = depth-placed_in page.tree [] k p is_placed in
+            let depth_is : 1 + length p.above ≡ n.depth = (let n_is : node_at p ≡ n = cc in ap (λ (x : Node). x.depth) n_is) in
+            record {
+              least = omega (arith, least, old_depth_is, depth_is);
+              most = omega (arith, most, valid.depth, depth_is);
+              new_most = omega (arith, new_depth_is, levels_fit);
+            }
 
     module _ (first : Option ℕ) (look look' : ℕ → Option Node) (siblings children : List ℕ) (kept : IsKept look first page) (siblings_are : siblings ≡ children_without page r.from id) (children_are : children ≡ insert (children_without page parent id) at id)
         (looked_up : (k : ℕ) → look' k ≡ moved_at r siblings children ids k (look k)) where
@@ -405,6 +425,28 @@ module _ (page : Contents) (valid : IsValid page) (id parent at : ℕ) (q : Plac
         root = kept.root ∙ sym (roots-put_below rest parent at q.label q.below ∙ roots-taken_out page.tree id ∙ ids_without-none (roots_of page.tree) id may.child);
       }
 
+      -- and they may be once more, on the way back
+      pub may_go_back : MayRelocateAll (back_from r) ids (node_of new_page)
+      may_go_back = record {
+        once = may_relocate.once;
+        each = λ k among n seen.
+            let at = seen_at new_page k n seen in
+            let most = depth-placed_in new_page.tree [] k at.place at.found in
+            let depth_is : 1 + length at.place.above ≡ n.depth = ap (λ (x : Node). x.depth) at.node_is in
+            record {
+              least = least k n (two k) (sym (relocated-among r ids k (two k) among) ∙ sym (looked_up k ∙ ap (moved_at r siblings children ids k) (kept.looked_up k)) ∙ known k ∙ seen);
+              most = omega (arith, most, valid-moved.depth, depth_is);
+              new_most = omega (arith, old_depth_is, above-most);
+            };
+      }
+        where
+          above-most : 1 + length q.above ≤ 256
+          above-most = omega (arith, depth-placed_in page.tree [] id q found, valid.depth)
+
+          least : (k : ℕ) (n : Node) (o : Option Node) → option_map (relocated r) o ≡ Some n → r.depth ≤ n.depth
+          least k n None is = absurd cc
+          least k n (Some m) is = (let n_is : relocated r m ≡ n = cc in omega (arith, ap (λ (x : Node). x.depth) n_is))
+
       -- and back
       pub moved-back : (had had' : List ℕ) → had ≡ option_map_or (λ (n : Node). n.children) (look r.from) siblings → had' ≡ option_map_or (λ (n : Node). n.children) (changed_at r.from (with_children siblings) r.parent (look r.parent)) children →
           (k : ℕ) → moved_at (back_from r) had' had ids k (look' k) ≡ node_of page k
@@ -421,6 +463,100 @@ module _ (page : Contents) (valid : IsValid page) (id parent at : ℕ) (q : Plac
           by_among true among = relocated-among (back_from r) ids k _ among ∙ ap (option_map (relocated (back_from r))) (relocated-among r ids k (node_of page k) among) ∙ goes_back k among
           by_among false apart = relocated-apart (back_from r) ids k _ apart ∙ relocated-apart r ids k (node_of page k) apart
 
+-- a node that is found below these ancestors stands right below them, or its parent is in the trees too
+parent_in : (f : Forest) (above : List Label) (k : ℕ) (p : Placed) → placed_in above f k ≡ Some p → (p.above ≡ above) ⊎ (0 < occurrences f (parent_id p.above))
+parent_in End above k p found = absurd cc
+parent_in (Grow n below others) above k p found = elim (found_in n below others above k p found) [
+  | Head here is ↦ inl (ap (λ (x : Placed). x.above) is)
+  | Deeper other is ↦ elim (parent_in below (n ∷ above) k p is) [
+    | inl here ↦ let at : n.id ≡ parent_id p.above = sym (ap parent_id here) in inr (grind (arith, nat_tests))
+    | inr some ↦ inr (omega (arith, some))
+  ]
+  | Beside other is ↦ elim (parent_in others above k p is) [
+    | inl here ↦ inl here
+    | inr some ↦ inr (omega (arith, some))
+  ]
+]
+
+-- whether a node is in the tree of another one, by its parent
+module _ (page : Contents) (valid : IsValid page) (id : ℕ) (q : Placed) (found : placed_of page id ≡ Some q) (k : ℕ) (p : Placed) (is_placed : placed_of page k ≡ Some p) where
+  abbrev whole : Forest
+  whole = single q.label q.below
+
+  whole_is : tree_of page id ≡ whole
+  whole_is = ap (λ o. option_map_or (λ x. Grow x.label x.below End) o End) found
+
+  apart_of : (j : ℕ) → occurrences page.tree j ≡ occurrences (taken_out id page.tree) j + occurrences whole j
+  apart_of j = occurrences-parted page.tree [] id j (valid.distinct id) ∙ ap (λ f. occurrences (taken_out id page.tree) j + occurrences f j) whole_is
+
+  once_in : occurrences page.tree k ≡ 1
+  once_in = once_there page k valid (ap is_some is_placed)
+
+  -- up
+  parent_too : k ≢ id → 0 < occurrences whole k → 0 < occurrences whole (parent_id p.above)
+  parent_too other some =
+      let at : AreAtPlaces page q.above whole = (ap (placed_of page) (id-placed_in page.tree [] id q found) ∙ found, (found-at_places page id q valid found, tt)) in
+      elim (found_in q.label q.below End q.above k p (sym (placed-at_places page whole q.above k at some) ∙ is_placed)) [
+        | Head here is ↦ absurd (other (sym here ∙ id-placed_in page.tree [] id q found))
+        | Deeper other' is ↦ elim (parent_in q.below (q.label ∷ q.above) k p is) [
+          | inl here ↦ let head : q.label.id ≡ parent_id p.above = sym (ap parent_id here) in grind (arith, nat_tests)
+          | inr some' ↦ omega (arith, some')
+        ]
+        | Beside other' is ↦ absurd cc
+      ]
+
+  -- down
+  child_too : 0 < occurrences whole (parent_id p.above) → 0 < occurrences whole k
+  child_too some = elim (cases_lt 0 (occurrences (taken_out id page.tree) k)) [
+    | inl stays ↦
+        let placed : placed_in [] (taken_out id page.tree) k ≡ Some (place_without id p) = placed_in-taken_out page.tree [] id k (valid.distinct k) stays ∙ ap (option_map (place_without id)) is_placed in
+        elim (parent_in (taken_out id page.tree) [] k (place_without id p) placed) [
+          | inl none ↦ absurd (omega (arith, some, apart_of 0, given-absent page.tree [] page.next 0 valid.given (inl refl), ap (λ a. occurrences whole (parent_id a)) none))
+          | inr some' ↦ absurd (omega (arith, some, some', apart_of (parent_id p.above), valid.distinct (parent_id p.above)))
+        ]
+    | inr few ↦ omega (arith, few, apart_of k, once_in)
+  ]
+
+-- a climb from a node by its parents meets another node just where the first one is in its tree
+module _ (page : Contents) (valid : IsValid page) (id : ℕ) where
+  pub climbs : has_id page id ≡ true → (k : ℕ) (node : Node) → node_of page k ≡ Some node → k ≢ id → nat_lt 0 (occurrences (tree_of page id) node.parent) ≡ nat_lt 0 (occurrences (tree_of page id) k)
+  climbs there k node seen other = by_place (placed_of page id) refl there
+    where
+      by_place : (o : Option Placed) → placed_of page id ≡ o → is_some o ≡ true → nat_lt 0 (occurrences (tree_of page id) node.parent) ≡ nat_lt 0 (occurrences (tree_of page id) k)
+      by_place None found is = absurd (false≢true is)
+      by_place (Some q) found is =
+          let at = seen_at page k node seen in
+          let tree_is : tree_of page id ≡ single q.label q.below = ap (λ o. option_map_or (λ x. Grow x.label x.below End) o End) found in
+          let up = parent_too page valid id q found k at.place at.found other in
+          let down = child_too page valid id q found k at.place at.found in
+          ap (λ (n : Node). nat_lt 0 (occurrences (tree_of page id) n.parent)) (sym at.node_is)
+          ∙ ap (λ f. nat_lt 0 (occurrences f (parent_id at.place.above))) tree_is
+          ∙ same (occurrences (single q.label q.below) (parent_id at.place.above)) (occurrences (single q.label q.below) k) down up
+          ∙ ap (λ f. nat_lt 0 (occurrences f k)) (sym tree_is)
+        where
+          same : (a b : ℕ) → (0 < a → 0 < b) → (0 < b → 0 < a) → nat_lt 0 a ≡ nat_lt 0 b
+          same a b there back = elim (cases_lt 0 a) [
+            | inl some ↦ let some' = there some in grind (arith, nat_tests)
+            | inr none ↦ elim (cases_lt 0 b) [ inl some ↦ absurd (omega (arith, none, back some)) | inr none' ↦ grind (arith, nat_tests) ]
+          ]
+
+  pub climbed : has_id page id ≡ true → nat_lt 0 (occurrences (tree_of page id) id) ≡ true
+  climbed there = by_place (placed_of page id) refl there
+    where
+      by_place : (o : Option Placed) → placed_of page id ≡ o → is_some o ≡ true → nat_lt 0 (occurrences (option_map_or (λ x. Grow x.label x.below End) o End) id) ≡ true
+      by_place None found is = absurd (false≢true is)
+      by_place (Some q) found is = let head : q.label.id ≡ id = id-placed_in page.tree [] id q found in grind (arith, nat_tests)
+
+  pub climbed_out : (k : ℕ) → node_of page k ≡ None → nat_lt 0 (occurrences (tree_of page id) k) ≡ false
+  climbed_out k unseen = elim (cases_lt 0 (occurrences page.tree k)) [
+    | inl some ↦ absurd (none_there (placed_of page k) unseen (placed_in-present page.tree [] k some))
+    | inr none ↦ let nothing : occurrences (tree_of page id) k ≡ 0 = omega (arith, none, occurrences-parted page.tree [] id k (valid.distinct id)) in grind (arith, nat_tests)
+  ]
+    where
+      none_there : (o : Option Placed) → option_map node_at o ≡ None → is_some o ≡ true → ⊥
+      none_there None is there = false≢true there
+      none_there (Some p) is there = absurd cc
+
 -- the children of the new parent without the moved node are those on the page without the moved tree
 pub length-others : (page : Contents) → IsValid page → (id parent : ℕ) → has_id page parent ≡ true → occurrences (tree_of page id) parent ≡ 0 → length (children_without page parent id) ≡ child_count (page_without page id) parent
 length-others page valid id parent there apart =
@@ -436,11 +572,14 @@ module _ (nodes : NodesState) (frame : Frame) (counted : IsCounted nodes frame.r
   abbrev page' : Contents
   page' = (state_of nodes frame).contents
 
-  -- each id stands among those of the moved tree once
-  pub ids_once : (edit : Edit) → IsPlanned (MoveNodes r siblings children ids) edit (state_of nodes frame) → (k : ℕ) → times_in k ids ≤ 1
-  ids_once (Move id parent at) planned k =
-      omega (arith, ap (times_in k) planned.plan_is.ids_are, times_in-ids_in (tree_of page' id) k, occurrences-parted page'.tree [] id k (counted.kept.valid.distinct id), counted.kept.valid.distinct k)
-  ids_once edit planned k = absurd planned.plan_is
+  -- the nodes of these ids may be relocated
+  pub planned-may_relocate : (edit : Edit) → IsPlanned (MoveNodes r siblings children ids) edit (state_of nodes frame) → MayRelocateAll r ids (node_with nodes.nodes)
+  planned-may_relocate (Move id parent at) planned =
+      let plan = planned.plan_is in
+      let placed = placed_below page' id r.from plan.place_is.from_is in
+      let may = may_relocate page' counted.kept.valid id parent at placed.place placed.found (may_move page' id parent at planned.faultless) r plan.place_is ids plan.ids_are in
+      record { once = may.once; each = λ k among n found. may.each k among n (sym (counted.kept.looked_up k) ∙ found) }
+  planned-may_relocate edit planned = absurd planned.plan_is
 
   pub planned-move : (edit : Edit) (new : NodesState) (had had' : List ℕ) → IsPlanned (MoveNodes r siblings children ids) edit (state_of nodes frame) →
       ((k : ℕ) → node_with new.nodes k ≡ moved_at r siblings children ids k (node_with nodes.nodes k)) → length new.nodes ≡ length nodes.nodes → HasSameRoom nodes new →
@@ -472,7 +611,7 @@ module _ (nodes : NodesState) (frame : Frame) (counted : IsCounted nodes frame.r
       (rw edited_is (record {
         looked_up = λ k. sym (ap (moved_at (back_from r) had' had ids k) (sym (kept.looked_up k)) ∙ back k);
         count = sym count_is;
-        can_go_back = ids_once (Move id parent at) planned;
+        can_go_back = may_go_back page valid id parent at q placed.found may r plan.place_is ids plan.ids_are frame.root (node_with nodes.nodes) (node_with new.nodes) siblings children counted.kept plan.siblings_are plan.children_are looked_up;
         fits = omega (arith, counted.fits, counted.count, same_room.room);
         next = omega arith;
       }))

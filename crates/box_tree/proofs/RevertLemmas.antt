@@ -40,7 +40,10 @@ can_go_back_so (Removed parent siblings nodes) look look' count count' room room
   fits = omega (arith, can.fits, counts, rooms);
   placed = λ k is. places k (can.placed k is);
 }
-can_go_back_so (Moved place siblings children ids) look look' count count' room room' HasPlace HasPlace' same counts rooms places can = can
+can_go_back_so (Moved place siblings children ids) look look' count count' room room' HasPlace HasPlace' same counts rooms places can = record {
+  once = can.once;
+  each = λ k among n found. can.each k among n (sym (same k) ∙ found);
+}
 can_go_back_so (Changed id change) look look' count count' room room' HasPlace HasPlace' same counts rooms places can = tt
 can_go_back_so Resized look look' count count' room room' HasPlace HasPlace' same counts rooms places can = tt
 

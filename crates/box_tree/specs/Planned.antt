@@ -1,5 +1,5 @@
 -- What a prepared edit holds, and an edit that was carried out.
-use Rattle.std.specs.Prelude.{◌≡◌, ℕ, ◌+◌, ◌-◌, ◌^◌, ◌<◌, ◌≤◌, ◌==◌, min, if◌then◌else◌, List, [], ◌∷◌, length, Bool, not, Option, None, Some, ℤ, Vec, vec_len, vec_capacity}
+use Rattle.std.specs.Prelude.{◌≡◌, ℕ, ◌+◌, ◌-◌, ◌<◌, ◌≤◌, ◌==◌, if◌then◌else◌, List, [], ◌∷◌, length, Bool, true, not, Option, None, Some, ℤ, Vec, vec_len, vec_capacity}
 use Rattle.std.specs.declared.alloc.Global.{Global}
 use Rattle.std.specs.Option.{option_map, option_map_or}
 use Rattle.std.specs.List.{insert, filter, list_any}
@@ -65,7 +65,18 @@ pub record IsRemovePlan (page : Contents) (id parent : ℕ) (siblings ids : List
 
 -- a node of a moved tree at its new depth, the moved node itself below its new parent
 abbrev pub relocated : Relocation → Node → Node
-relocated r n = record n { parent = if n.id == r.id then r.parent else n.parent; depth = min (n.depth - r.old_depth + r.depth) (2 ^ 32 - 1) }
+relocated r n = record n { parent = if n.id == r.id then r.parent else n.parent; depth = n.depth - r.old_depth + r.depth }
+
+-- a node is at most as deep as a page, and at least as deep as the moved node was, which then is at most so deep too
+pub record MayRelocate (r : Relocation) (n : Node) : Type 0 where
+  pub least : r.old_depth ≤ n.depth
+  pub most : n.depth ≤ 256
+  pub new_most : r.depth ≤ 256
+
+-- each of these ids stands there once, and the nodes that are looked up of them may be relocated
+pub record MayRelocateAll (r : Relocation) (ids : List ℕ) (look : ℕ → Option Node) : Type 0 where
+  pub once : (k : ℕ) → times_in k ids ≤ 1
+  pub each : (k : ℕ) → is_among ids k ≡ true → (n : Node) → look k ≡ Some n → MayRelocate r n
 
 -- the way back
 abbrev pub back_from : Relocation → Relocation

@@ -12,7 +12,7 @@ use Rattle.box_tree.specs.Contents.{Contents, node_of}
 use Rattle.box_tree.specs.Forest.{roots_of, node_count}
 use Rattle.box_tree.specs.Kept.{node_with, with_children, with_label}
 use Rattle.box_tree.specs.Nodes.{changed_at}
-use Rattle.box_tree.specs.Planned.{times_in, moved_at}
+use Rattle.box_tree.specs.Planned.{times_in, moved_at, MayRelocateAll}
 use Rattle.box_tree.specs.Totals.{box_count}
 
 -- what is looked up of an id before an edit, by what is looked up after it
@@ -52,7 +52,7 @@ pub record CanBePut (nodes : List Node) (look : ℕ → Option Node) (count room
 abbrev pub CanGoBack : Taken → (ℕ → Option Node) → ℕ → ℕ → (ℕ → Type 0) → Type 0
 CanGoBack (Added id parent siblings) look count room HasPlace = IsSome (look id)
 CanGoBack (Removed parent siblings nodes) look count room HasPlace = CanBePut nodes.items look count room HasPlace
-CanGoBack (Moved place siblings children ids) look count room HasPlace = (k : ℕ) → times_in k ids ≤ 1
+CanGoBack (Moved place siblings children ids) look count room HasPlace = MayRelocateAll place ids look
 CanGoBack (Changed id change) look count room HasPlace = Unit {0}
 CanGoBack Resized look count room HasPlace = Unit {0}
 

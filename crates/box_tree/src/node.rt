@@ -1,6 +1,6 @@
 ghost use Rattle.std.specs.Prelude.{◌≡◌, ◌≤◌, length, IfOk};
 ghost use Rattle.std.specs.List.{insert};
-ghost use Rattle.box_tree.specs.Planned.{ids_without, is_among};
+ghost use Rattle.box_tree.specs.Planned.{ids_without};
 
 use crate::kind::Kind;
 use crate::piece::Piece;
@@ -56,11 +56,11 @@ impl IdList {
         Ok(IdList(ids))
     }
 
-    // Whether an id is in the list.
-    pub(crate) fn contains(&self, id: u32) -> bool
-        ensures { result ≡ is_among self.now id }
+    // How many ids there are beside one.
+    pub(crate) fn count_without(&self, id: u32) -> usize
+        ensures { result ≡ length (ids_without id self.now) }
     {
-        self.0.contains(&id)
+        self.0.iter().copied().filter(|other| *other != id).count()
     }
 }
 

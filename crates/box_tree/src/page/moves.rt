@@ -1,14 +1,15 @@
 // A move: its faults, its plan, and carrying it out.
 ghost use Rattle.std.specs.Prelude.{◌≡◌, ◌≢◌, ◌+◌, ◌≤◌, ◌||◌, ◌==◌, ℕ, not, true, nat_lt, length, None, Some, IfOk, IfErr, IsSome};
-ghost use Rattle.std.specs.Option.{option_map_or};
+ghost use Rattle.std.specs.Option.{option_map_or, option_copied};
+ghost use Rattle.box_tree.specs.declared.node.Node.{Node};
 ghost use Rattle.box_tree.specs.declared.edit.Edit.TheVariants.{Move};
 ghost use Rattle.box_tree.specs.declared.plan.Plan.TheVariants.{MoveNodes};
 ghost use Rattle.box_tree.specs.Contents.{tree_of, has_id, node_of, IsValid};
 ghost use Rattle.box_tree.specs.Edited.{IsId, kind_may_move, first_fault, edited, answer_of, ancestors_below, child_count, page_without, is_root};
-ghost use Rattle.box_tree.specs.Forest.{height_of, ids_in, occurrences};
+ghost use Rattle.box_tree.specs.Forest.{height_of, occurrences};
 ghost use Rattle.box_tree.specs.Kept.{node_with, with_children};
 ghost use Rattle.box_tree.specs.Nodes.{changed_at, HasSameRoom, ChangesAt};
-ghost use Rattle.box_tree.specs.Planned.{times_in, children_without, relocated, relocated_at, moved_at, back_from, IsPlaceFor, IsPlanned};
+ghost use Rattle.box_tree.specs.Planned.{ids_without, relocated, relocated_at, moved_at, back_from, MayRelocate, MayRelocateAll, IsPlaceFor, IsPlanned};
 ghost use Rattle.box_tree.specs.Taken.{IsTaken, answer_by};
 
 use super::Page;
@@ -28,26 +29,14 @@ impl Page {
         ensures planned { IfOk result (λ plan. IsPlanned plan (Move id parent at) self.now) }
         ensures first_fault { IfErr result (λ why. why ≢ EditFault.OutOfMemory → first_fault self.now.contents (Move id parent at) ≡ Some why) }
     {
-        let alloc = *self.nodes.allocator();
-        let ids = ids_of_tree(alloc, self, id)?;
-        let others = siblings_without(alloc, self.find(parent), id)?;
-        if let Some(fault) = self.fault_of_move(id, parent, at, &ids, &others) {
+        if let Some(fault) = self.fault_of_move(id, parent, at) {
             return Err(fault);
         }
-        self.plan_of_move(id, parent, at, ids, &others)
+        self.plan_of_move(id, parent, at)
     }
 
-    // The first fault of a move, by the ids of the moved tree and the other children of the new parent.
-    fn fault_of_move(
-        &self,
-        id: u32,
-        parent: u32,
-        at: u32,
-        ids: &IdList,
-        others: &IdList,
-    ) -> Option<EditFault>
-        requires ids { ids.now ≡ ids_in (tree_of self.now.contents id) }
-        requires others { others.now ≡ children_without self.now.contents parent id }
+    // The first fault of a move.
+    fn fault_of_move(&self, id: u32, parent: u32, at: u32) -> Option<EditFault>
         ensures { result ≡ first_fault self.now.contents (Move id parent at) }
     {
         if self.lacks(id, parent) {
@@ -59,10 +48,10 @@ impl Page {
         if !self.kind_may_move(id, parent) {
             return Some(EditFault::Kind);
         }
-        if self.goes_below_itself(id, parent, ids) {
+        if self.goes_below_itself(id, parent) {
             return Some(EditFault::Cycle);
         }
-        if self.is_beyond(id, parent, at, others) {
+        if self.is_beyond(id, parent, at) {
             return Some(EditFault::Place);
         }
         if self.is_too_deep(id, parent) {
@@ -81,23 +70,30 @@ impl Page {
         }
     }
 
-    // Whether the new parent is in the moved tree, which has these ids.
-    fn goes_below_itself(&self, id: u32, parent: u32, ids: &IdList) -> bool
-        requires { ids.now ≡ ids_in (tree_of self.now.contents id) }
+    // Whether the new parent is in the moved tree: whether the node is the parent or above it.
+    fn goes_below_itself(&self, id: u32, parent: u32) -> bool
+        requires { has_id self.now.contents id ≡ true }
         ensures { result ≡ nat_lt 0 (occurrences (tree_of self.now.contents id) parent) }
     {
-        ids.contains(parent)
+        self.validity();
+        let mut above = parent;
+        while let Some(node) = self.find(above) {
+            if above == id {
+                return true;
+            }
+            above = node.parent;
+        }
+        false
     }
 
-    // Whether the place is above the number of the other children of the new parent, which has these.
-    fn is_beyond(&self, id: u32, parent: u32, at: u32, others: &IdList) -> bool
-        requires others { others.now ≡ children_without self.now.contents parent id }
+    // Whether the place is above the number of the other children of the new parent.
+    fn is_beyond(&self, id: u32, parent: u32, at: u32) -> bool
         requires there { has_id self.now.contents parent ≡ true }
         requires apart { occurrences (tree_of self.now.contents id) parent ≡ 0 }
         ensures { result ≡ nat_lt (child_count (page_without self.now.contents id) parent) at }
     {
         self.validity();
-        others.as_slice().len() < at as usize
+        others_below(self.find(parent), id) < at as usize
     }
 
     // Whether a node of the moved tree would be too deep below the new parent.
@@ -142,17 +138,8 @@ impl Page {
     }
 
     // The plan of a move without a fault.
-    fn plan_of_move(
-        &self,
-        id: u32,
-        parent: u32,
-        at: u32,
-        ids: IdList,
-        others: &IdList,
-    ) -> Result<Plan, EditFault>
+    fn plan_of_move(&self, id: u32, parent: u32, at: u32) -> Result<Plan, EditFault>
         requires range { IsId id }
-        requires ids { ids ≡ ids_in (tree_of self.now.contents id) }
-        requires others { others.now ≡ children_without self.now.contents parent id }
         requires faultless { first_fault self.now.contents (Move id parent at) ≡ None }
         ensures planned { IfOk result (λ plan. IsPlanned plan (Move id parent at) self.now) }
         ensures memory { IfErr result (λ why. why ≡ EditFault.OutOfMemory) }
@@ -160,7 +147,9 @@ impl Page {
         self.validity();
         let alloc = *self.nodes.allocator();
         let place = self.place_in(id, parent);
+        let ids = ids_of_tree(alloc, self, id)?;
         let siblings = siblings_without(alloc, self.find(place.from), id)?;
+        let others = siblings_without(alloc, self.find(parent), id)?;
         let children = others.with(alloc, at as usize, id)?;
         Ok(Plan::MoveNodes {
             place,
@@ -231,7 +220,7 @@ pub(super) fn exchange_places(
     children: IdList,
     ids: &IdList,
 ) -> Lists
-    requires { (k : ℕ) → times_in k ids.now ≤ 1 }
+    requires { MayRelocateAll place ids.now (node_with nodes.old.nodes) }
     ensures looked_up { (k : ℕ) → node_with nodes.new.nodes k ≡ moved_at place siblings children ids.now k (node_with nodes.old.nodes k) }
     ensures count { length nodes.new.nodes ≡ length nodes.old.nodes }
     ensures same_room { HasSameRoom nodes.old nodes.new }
@@ -257,6 +246,16 @@ fn way_back(place: Relocation) -> Relocation
     }
 }
 
+// How many children a node has beside one, and 0 where there is no node.
+fn others_below(above: Option<&Node>, id: u32) -> usize
+    ensures { result ≡ option_map_or (λ n. length (ids_without id n.children)) (option_copied above.entry) 0 }
+{
+    match above {
+        Some(node) => node.children.count_without(id),
+        None => 0,
+    }
+}
+
 // How many levels the tree of a node has.
 fn levels(page: &Page, id: u32) -> u32
     requires { IsValid page.now.contents }
@@ -276,7 +275,7 @@ fn levels(page: &Page, id: u32) -> u32
 
 // Each node of these ids that is there gets its new depth, and the moved one its new parent.
 fn relocate_all(nodes: &mut Nodes, place: Relocation, ids: &IdList)
-    requires { (k : ℕ) → times_in k ids.now ≤ 1 }
+    requires { MayRelocateAll place ids.now (node_with nodes.old.nodes) }
     ensures looked_up { (k : ℕ) → node_with nodes.new.nodes k ≡ relocated_at place ids.now k (node_with nodes.old.nodes k) }
     ensures count { length nodes.new.nodes ≡ length nodes.old.nodes }
     ensures same_room { HasSameRoom nodes.old nodes.new }
@@ -288,6 +287,7 @@ fn relocate_all(nodes: &mut Nodes, place: Relocation, ids: &IdList)
 
 // The node of an id gets its new depth, where it is there, and the one that the move names its new parent.
 fn relocate_node(nodes: &mut Nodes, place: Relocation, id: u32)
+    requires { (n : Node) → node_with nodes.old.nodes id ≡ Some n → MayRelocate place n }
     ensures { ChangesAt nodes.old nodes.new id (relocated place) }
 {
     if nodes.find(id).is_none() {
@@ -300,12 +300,10 @@ fn relocate_node(nodes: &mut Nodes, place: Relocation, id: u32)
 
 // A node gets its new depth, and the one that the move names its new parent.
 fn reseat(node: &mut Node, place: Relocation)
+    requires { MayRelocate place node.old }
     ensures { node.new ≡ relocated place node.old }
 {
-    node.depth = node
-        .depth
-        .saturating_sub(place.old_depth)
-        .saturating_add(place.depth);
+    node.depth = node.depth - place.old_depth + place.depth;
     if node.id == place.id {
         node.parent = place.parent;
     }

@@ -8,11 +8,11 @@ use Rattle.box_tree.specs.PageState.{PageState}
 use Rattle.box_tree.specs.Planned.{back_from, IsPlanned}
 use Rattle.box_tree.specs.Taken.{IsTaken}
 use Rattle.box_tree.proofs.PlanLemmas.{state_of, Carries, taken_as}
-use Rattle.box_tree.proofs.MoveLemmas.{ids_once, planned-move}
+use Rattle.box_tree.proofs.MoveLemmas.{planned-may_relocate, planned-move}
 use Rattle.box_tree.proofs.page.Page.relocate.Goals as goal
 
 pub exchange_places-had-requires : goal.exchange_places-had-requires
-exchange_places-had-requires c = ids_once c.self.inside.nodes c.self.inside.frame c.self.invariant c.args.place c.args.siblings c.args.children c.args.ids c.args.edit.now.value
+exchange_places-had-requires c = planned-may_relocate c.self.inside.nodes c.self.inside.frame c.self.invariant c.args.place c.args.siblings c.args.children c.args.ids c.args.edit.now.value
     (subst (λ (page : PageState). IsPlanned (MoveNodes c.args.place c.args.siblings c.args.children c.args.ids) c.args.edit.now.value page) (sym c.self.view_is) c.requires)
 
 carried : (c : goal.After-way_back) → Carries c.exchange_places-had.new.nodes c.self.inside.frame (Moved (back_from c.args.place) c.exchange_places-had.result.children c.exchange_places-had.result.siblings c.args.ids) (state_of c.self.inside.nodes c.self.inside.frame) c.args.edit.now.value

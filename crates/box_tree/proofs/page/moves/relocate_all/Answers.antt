@@ -1,11 +1,14 @@
 use Rattle.std.proofs.Common.{◌≤◌, ℕ, List, sym, ap, ◌∙◌, subst, refl}
 use Rattle.box_tree.specs.Kept.{node_with}
-use Rattle.box_tree.specs.Planned.{times_in, relocated_at}
-use Rattle.box_tree.proofs.ExchangeLemmas.{RelocatesUpTo, relocates_none, relocates_more, drop_at, drop_all}
+use Rattle.box_tree.specs.Planned.{relocated_at, MayRelocateAll}
+use Rattle.box_tree.proofs.ExchangeLemmas.{RelocatesUpTo, relocates_none, relocates_next, relocates_more, drop_at, drop_all}
 use Rattle.box_tree.proofs.page.moves.relocate_all.Goals as goal
 
 pub loop-id-init : goal.loop-id-init
-loop-id-init c = relocates_none _ _ _ (λ k. subst (λ (ids : List ℕ). times_in k ids ≤ 1) (sym c.as_slice-id-items.ensures) (c.requires k))
+loop-id-init c = relocates_none _ _ _ (subst (λ (ids : List ℕ). MayRelocateAll c.args.place ids (node_with c.args.nodes.now.nodes)) (sym c.as_slice-id-items.ensures) c.requires)
+
+pub relocate_node-requires : goal.relocate_node-requires
+relocate_node-requires c = relocates_next _ _ _ _ _ _ (subst (RelocatesUpTo _ _ _ _) (drop_at _ _ _ 0 c.loop-id-test.true refl) c.loop-id.invariant)
 
 pub loop-id-preserved : goal.loop-id-preserved
 loop-id-preserved c = relocates_more _ _ _ _ _ _ _ (subst (RelocatesUpTo _ _ _ _) (drop_at _ _ _ 0 c.loop-id-test.true refl) c.loop-id.invariant) c.relocate_node.ensures

@@ -6,6 +6,9 @@ use Rattle.box_tree.proofs.ExchangeLemmas.{absent_at, changed_by}
 use Rattle.box_tree.proofs.KeptLemmas.{id-node_with}
 use Rattle.box_tree.proofs.page.moves.relocate_node.Goals as goal
 
+pub reseat-requires : goal.reseat-requires
+reseat-requires c = c.requires c.take-node.result (sym c.take-node.ensures.taken)
+
 pub put-requires-clause-absent : goal.put-requires-clause-absent
 put-requires-clause-absent c =
     let node = c.take-node.result in
