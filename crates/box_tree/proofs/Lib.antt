@@ -17,3 +17,4 @@ pub mod PlaceLemmas
 pub mod BoxLemmas
 pub mod ContainingLemmas
 pub mod RestyleLemmas
+pub mod ScrollLemmas

@@ -9,11 +9,11 @@ use Rattle.box_tree.specs.declared.kind.Kind.{Kind}
 use Rattle.box_tree.specs.declared.piece.Piece.{Piece}
 use Rattle.box_tree.specs.declared.node.Node.{Node}
 use Rattle.box_tree.specs.declared.edit.Edit.{Edit}
-use Rattle.box_tree.specs.declared.edit.Edit.TheVariants.{Add, Remove, Move, Place, Restyle, Resize}
+use Rattle.box_tree.specs.declared.edit.Edit.TheVariants.{Add, Remove, Move, Place, Restyle, Scroll, Resize, ScrollView}
 use Rattle.box_tree.specs.declared.plan.Plan.{Plan}
 use Rattle.box_tree.specs.declared.plan.Placement.{Placement}
 use Rattle.box_tree.specs.declared.plan.Relocation.{Relocation}
-use Rattle.box_tree.specs.declared.plan.Plan.TheVariants.{AddNode, RemoveNodes, MoveNodes, PlaceNode, RestyleNode, ResizeViewport}
+use Rattle.box_tree.specs.declared.plan.Plan.TheVariants.{AddNode, RemoveNodes, MoveNodes, PlaceNode, RestyleNode, ScrollNode, ResizeViewport, ScrollViewport}
 use Rattle.box_tree.specs.Forest.{End, node_count, occurrences}
 use Rattle.box_tree.specs.Contents.{Contents, depth_below, new_label, node_at, node_of, tree_of}
 use Rattle.box_tree.specs.Edited.{IsInRange, first_fault, ancestors_below}
@@ -92,6 +92,17 @@ pub record IsRestylePlan (id : ℕ) (style : Style) (id' : ℕ) (own : Style) : 
   pub id_is : id' ≡ id
   pub style_is : own ≡ style
 
+-- a node and where it is scrolled to
+pub record IsScrollPlan (id : ℕ) (x y : ℤ) (id' : ℕ) (to : Spot) : Type 0 where
+  pub id_is : id' ≡ id
+  pub across_is : to.x ≡ x
+  pub down_is : to.y ≡ y
+
+-- where the viewport is scrolled to
+pub record IsScrollViewPlan (x y : ℤ) (to : Spot) : Type 0 where
+  pub across_is : to.x ≡ x
+  pub down_is : to.y ≡ y
+
 -- the sides of the viewport and its greatest scroll
 pub record IsResizePlan (w h : ℤ) (max : Spot) (w' h' : ℤ) (max' : Spot) : Type 0 where
   pub width_is : w' ≡ w
@@ -105,7 +116,9 @@ IsPlanFor (RemoveNodes parent siblings gone) (Remove id) page = IsRemovePlan pag
 IsPlanFor (MoveNodes place siblings children ids) (Move id parent at) page = IsMovePlan page.contents id parent at place siblings children ids
 IsPlanFor (PlaceNode placement own) (Place id anchor boxes max) page = IsPlacePlan id anchor boxes max placement own
 IsPlanFor (RestyleNode id' own) (Restyle id style) page = IsRestylePlan id style id' own
+IsPlanFor (ScrollNode id' to) (Scroll id x y) page = IsScrollPlan id x y id' to
 IsPlanFor (ResizeViewport w' h' max') (Resize w h max) page = IsResizePlan w h max w' h' max'
+IsPlanFor (ScrollViewport to) (ScrollView x y) page = IsScrollViewPlan x y to
 IsPlanFor plan edit page = ⊥
 
 -- an edit that may be carried out, and its plan

@@ -21,6 +21,7 @@ mod places;
 mod removes;
 mod resizes;
 mod restyles;
+mod scrolls;
 
 /// A page: a tree of nodes or none, seen through a viewport.
 #[derive(Drop)]
@@ -156,7 +157,9 @@ impl Page {
                 self.plan_place(placement, boxes)?
             }
             Edit::Restyle { id, style } => self.plan_restyle(*id, style)?,
+            Edit::Scroll { id, x, y } => self.plan_scroll(*id, *x, *y)?,
             Edit::Resize { w, h, max } => self.plan_resize(*w, *h, *max),
+            Edit::ScrollView { x, y } => self.plan_scroll_view(*x, *y),
         };
         Ok(Prepared {
             plan,
@@ -195,7 +198,9 @@ impl Page {
             } => self.relocate(place, siblings, children, ids, &edit),
             Plan::PlaceNode { placement, boxes } => self.place(placement, boxes, &edit),
             Plan::RestyleNode { id, style } => self.restyle(id, style, &edit),
+            Plan::ScrollNode { id, to } => self.scroll(id, to, &edit),
             Plan::ResizeViewport { w, h, max } => self.resize(w, h, max, &edit),
+            Plan::ScrollViewport { to } => self.scroll_view(to, &edit),
         };
         Undo {
             done,

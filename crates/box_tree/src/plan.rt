@@ -61,11 +61,20 @@ pub(crate) enum Plan {
         id: u32,
         style: Style,
     },
+    /// The node and where it is scrolled to.
+    ScrollNode {
+        id: u32,
+        to: Spot,
+    },
     /// The sides of the viewport and its greatest scroll.
     ResizeViewport {
         w: i64,
         h: i64,
         max: Spot,
+    },
+    /// Where the viewport is scrolled to.
+    ScrollViewport {
+        to: Spot,
     },
 }
 

@@ -13,6 +13,7 @@ use std::test::Fail;
 mod counts;
 mod kinds;
 mod layouts;
+mod scrolls;
 
 // A box of 100 by 100 units for each corner.
 fn boxes_at(alloc: Global, corners: &[(i64, i64)]) -> Result<PieceList, Fail> {
