@@ -1,5 +1,6 @@
 pub mod ForestLemmas
 pub mod Grown
+pub mod NodesLemmas
 pub mod PutLemmas
 pub mod KeptLemmas
 pub mod KeptPages
@@ -18,3 +19,6 @@ pub mod BoxLemmas
 pub mod ContainingLemmas
 pub mod RestyleLemmas
 pub mod ScrollLemmas
+pub mod ChangeLemmas
+pub mod RevertLemmas
+pub mod ExchangeLemmas

@@ -1,15 +1,14 @@
 // Scrolls of a node and of the viewport: their faults, their plans, and carrying them out.
-ghost use Rattle.std.specs.Prelude.{◌≡◌, ◌≢◌, Some, IsSome, IfOk, IfErr, vec_capacity};
+ghost use Rattle.std.specs.Prelude.{◌≡◌, ◌≢◌, Some, IfOk, IfErr};
 ghost use Rattle.box_tree.specs.declared.edit.Edit.TheVariants.{Scroll, ScrollView};
-ghost use Rattle.box_tree.specs.declared.plan.Plan.TheVariants.{ScrollNode, ScrollViewport};
-ghost use Rattle.box_tree.specs.Edited.{IsScrollInRange, IsScrollViewInRange, kind_takes_scroll, first_fault, edited, scrolled_node, answer_of};
-ghost use Rattle.box_tree.specs.Kept.{node_with, with_label, IsRisingFrom, ChangesNode};
+ghost use Rattle.box_tree.specs.declared.plan.Plan.TheVariants.{ScrollViewport};
+ghost use Rattle.box_tree.specs.Edited.{IsScrollInRange, IsScrollViewInRange, kind_takes_scroll, first_fault, edited, answer_of};
 ghost use Rattle.box_tree.specs.Planned.{IsPlanned};
+ghost use Rattle.box_tree.specs.Taken.{IsTaken, answer_by};
 
-use super::{Page, place_of};
-use crate::edit::{Done, Edit, EditFault};
-use crate::node::Node;
-use crate::plan::Plan;
+use super::Page;
+use crate::edit::{Edit, EditFault};
+use crate::plan::{Change, Plan, Taken};
 use crate::scroll::clamp;
 use crate::suits::takes_scroll;
 use fractions::Spot;
@@ -48,28 +47,11 @@ impl Page {
         if let Some(fault) = self.fault_of_scroll(id, x, y) {
             return Err(fault);
         }
-        Ok(Plan::ScrollNode {
-            id,
-            to: Spot { x, y },
-        })
-    }
-
-    // Carries out a planned scroll.
-    pub(super) fn scroll(&mut self, id: u32, to: Spot, edit: &Snapshot<Edit>) -> Done
-        requires { IsPlanned (ScrollNode id to) edit.now.value self.old }
-        ensures contents { self.new.contents ≡ edited self.old.contents edit.now.value }
-        ensures answer { result ≡ answer_of self.old.contents edit.now.value }
-    {
-        self.scroll_node(id, to, edit);
-        Done::Done
-    }
-
-    // The node is scrolled.
-    fn scroll_node(&mut self, id: u32, to: Spot, edit: &Snapshot<Edit>)
-        requires { IsPlanned (ScrollNode id to) edit.now.value self.old }
-        ensures { self.new.contents ≡ edited self.old.contents edit.now.value }
-    {
-        scroll_among(&mut self.nodes, id, to);
+        let Some(node) = self.find(id) else {
+            return Err(EditFault::Absent);
+        };
+        let change = Change::Scroll(clamp(Spot { x, y }, node.max));
+        Ok(Plan::ChangeNode { id, change })
     }
 
     // The plan of a scroll of the viewport, which has no fault and takes no memory.
@@ -81,37 +63,15 @@ impl Page {
     }
 
     // Carries out a planned scroll of the viewport.
-    pub(super) fn scroll_view(&mut self, to: Spot, edit: &Snapshot<Edit>) -> Done
+    pub(super) fn scroll_view(&mut self, to: Spot, edit: &Snapshot<Edit>) -> Taken
         requires { IsPlanned (ScrollViewport to) edit.now.value self.old }
         ensures contents { self.new.contents ≡ edited self.old.contents edit.now.value }
-        ensures answer { result ≡ answer_of self.old.contents edit.now.value }
+        ensures room { self.new.room ≡ self.old.room }
+        ensures taken { IsTaken result self.old.contents self.new.contents self.new.room }
+        ensures answer { answer_by result ≡ answer_of self.old.contents edit.now.value }
     {
-        self.scroll_viewport(to, edit);
-        Done::Done
-    }
-
-    // The viewport is scrolled.
-    fn scroll_viewport(&mut self, to: Spot, edit: &Snapshot<Edit>)
-        requires { IsPlanned (ScrollViewport to) edit.now.value self.old }
-        ensures { self.new.contents ≡ edited self.old.contents edit.now.value }
-    {
-        let scroll = clamp(to, self.viewport.max);
-        self.viewport.scroll = scroll;
-    }
-}
-
-// One of the nodes is scrolled.
-fn scroll_among(nodes: &mut Vec<Node>, id: u32, to: Spot)
-    requires rising { IsRisingFrom 0 nodes.old.items }
-    requires there { IsSome (node_with nodes.old.items id) }
-    ensures changed { ChangesNode nodes.old.items nodes.new.items id (with_label (scrolled_node to.x to.y)) }
-    ensures capacity { vec_capacity nodes.new ≡ vec_capacity nodes.old }
-{
-    match place_of(nodes, id) {
-        Some(place) => {
-            let node = &mut nodes[place];
-            node.scroll = clamp(to, node.max);
-        }
-        None => unreachable!(),
+        let scroll = clamp(to, self.frame.viewport.max);
+        self.frame.viewport.scroll = scroll;
+        Taken::Untouched
     }
 }
