@@ -58,7 +58,7 @@ module _ (nodes : NodesState) (frame : Frame) (counted : IsCounted nodes frame.r
         let boxes = boxes_relabelled page id' relabel counted.kept.valid there in
         let old_is : node_with nodes.nodes id ≡ node_of page id' = ap (node_with nodes.nodes) plan.id_is ∙ counted.kept.looked_up id' in
         let new_is : node_with new.nodes id ≡ option_map (with_label relabel) (node_of page id') =
-            ap (node_with new.nodes) plan.id_is ∙ known id' ∙ changed-here id' (with_label (changed change)) id' (node_with nodes.nodes id') refl ∙ ap (option_map (with_label (changed change))) (counted.kept.looked_up id') ∙ plan.change_is in
+        ap (node_with new.nodes) plan.id_is ∙ known id' ∙ changed-here id' (with_label (changed change)) id' (node_with nodes.nodes id') refl ∙ ap (option_map (with_label (changed change))) (counted.kept.looked_up id') ∙ plan.change_is in
         let count_is = node_count-relabelled id' relabel keeps page.tree in
         carries new frame' (Changed id had) (state_of nodes frame) edit
         (rw (root_is, edited_is) kept)

@@ -35,9 +35,9 @@ pub record Means (nodes : NodesState) (frame : Frame) (page : Contents) : Type 0
 pub means : (nodes : NodesState) (frame : Frame) (page : Contents) → IsCounted nodes frame.root frame.boxes page → frame.viewport ≡ page.viewport → frame.next ≡ page.next → Means nodes frame page
 means nodes frame page counted viewport next =
     let is : page_of (node_with nodes.nodes) frame.root frame.viewport frame.next ≡ page =
-        ap (λ v. page_of (node_with nodes.nodes) frame.root v frame.next) viewport
-        ∙ ap (page_of (node_with nodes.nodes) frame.root page.viewport) next
-        ∙ page_of-kept (node_with nodes.nodes) frame.root page counted.kept in
+    ap (λ v. page_of (node_with nodes.nodes) frame.root v frame.next) viewport
+    ∙ ap (page_of (node_with nodes.nodes) frame.root page.viewport) next
+    ∙ page_of-kept (node_with nodes.nodes) frame.root page counted.kept in
     record { counted = subst (IsCounted nodes frame.root frame.boxes) (sym is) counted; is = is }
 
 -- more room changes nothing

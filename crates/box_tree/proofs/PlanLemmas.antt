@@ -29,7 +29,7 @@ use Rattle.box_tree.proofs.AddLemmas.{may_add, once_there, ancestors_below-none,
 use Rattle.box_tree.proofs.ForestLemmas.{single, placed_in-absent, node_in-absent, node_count-put_below}
 use Rattle.box_tree.proofs.KeptLemmas.{changed-none, children-back}
 use Rattle.box_tree.proofs.KeptPages.{Means, means}
-use Rattle.box_tree.proofs.PlacedLemmas.{id-placed_in}
+pub use Rattle.box_tree.proofs.PlacedLemmas.{id-placed_in}
 use Rattle.box_tree.proofs.PutLemmas.{given-absent}
 use Rattle.box_tree.proofs.TotalLemmas.{total-put_below}
 
@@ -181,10 +181,10 @@ module _ (nodes : NodesState) (frame : Frame) (counted : IsCounted nodes frame.r
       let id_is : node.id ≡ page.next = ap (λ (n : Node). n.id) plan.node_is in
       let parent_is : node.parent ≡ parent = ap (λ (n : Node). n.parent) plan.node_is ∙ parent-node_added page parent kind style boxes valid may.present in
       let known : (k : ℕ) → node_with new.nodes k ≡ (if page.next == k then Some (node_added page parent kind style boxes) else changed_at parent (with_children siblings) k (node_with nodes.nodes k)) = (λ k.
-          puts k ∙ ap (λ o. if node.id == k then Some node else o) (gives.looked_up k)
-          ∙ ap (λ i. if i == k then Some node else changed_at node.parent (with_children siblings) k (node_with nodes.nodes k)) id_is
-          ∙ ap (λ n. if page.next == k then Some n else changed_at node.parent (with_children siblings) k (node_with nodes.nodes k)) plan.node_is
-          ∙ ap (λ i. if page.next == k then Some (node_added page parent kind style boxes) else changed_at i (with_children siblings) k (node_with nodes.nodes k)) parent_is) in
+      puts k ∙ ap (λ o. if node.id == k then Some node else o) (gives.looked_up k)
+      ∙ ap (λ i. if i == k then Some node else changed_at node.parent (with_children siblings) k (node_with nodes.nodes k)) id_is
+      ∙ ap (λ n. if page.next == k then Some n else changed_at node.parent (with_children siblings) k (node_with nodes.nodes k)) plan.node_is
+      ∙ ap (λ i. if page.next == k then Some (node_added page parent kind style boxes) else changed_at i (with_children siblings) k (node_with nodes.nodes k)) parent_is) in
       let label = new_label page.next kind style boxes in
       let kept : IsKept (node_with new.nodes) frame'.root (edited page edit) = elim (cases_eq parent 0) [
         | inl none_named ↦

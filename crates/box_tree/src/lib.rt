@@ -1,7 +1,8 @@
 //! The page: a tree of nodes with their boxes, the viewport, and the edits that change them.
 //!
 //! It promises that an edit is tested by the table of faults before anything is changed, that a tested edit is
-//! carried out without taking memory, and that the page is then the edited one of `specs/Edited.antt`.
+//! carried out without taking memory, that the page is then the edited one of `specs/Edited.antt`, and that an edit can
+//! be taken back: then the page is the one before it.
 //! It tells what holds a node and what its used values are, by `specs/Containing.antt` and `specs/Used.antt`.
 //! It stands on `fractions` for its points and its counter of steps, and on `computed_style` for declared styles.
 #![tactic(auto)]

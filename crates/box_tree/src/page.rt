@@ -4,12 +4,12 @@ ghost use Rattle.box_tree.specs.Contents.{empty_page, has_id, node_of, IsValid};
 ghost use Rattle.box_tree.specs.Edited.{IsInRange, first_fault, edited, answer_of};
 ghost use Rattle.box_tree.specs.Forest.{roots_of, node_count};
 
+use self::reverts::{answer_by, put_back};
 use crate::edit::{Done, Edit, EditFault};
 use crate::node::{Node, ORIGIN};
 use crate::nodes::Nodes;
 use crate::plan::{Frame, Plan, Prepared, Undo};
 use crate::viewport::Viewport;
-use self::reverts::{answer_by, put_back};
 use fractions::{Ledger, Steps};
 use std::alloc::Global;
 use std::marker::Model;

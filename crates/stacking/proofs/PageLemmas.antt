@@ -10,10 +10,9 @@ use Rattle.box_tree.specs.declared.piece.Piece.{Piece}
 use Rattle.box_tree.specs.Forest.{Label, Forest, End, Grow, Placed, EachNode}
 use Rattle.box_tree.specs.Contents.{Contents, node_at, node_of, placed_of, has_id, ancestors_of, ancestor_count, parent_id, IsValid, IsGiven, IsSuited}
 use Rattle.box_tree.specs.Kept.{label_of}
-use Rattle.box_tree.proofs.PlacedLemmas.{trees_from, trees_from-all, IsChildAt, page-at_places}
+use Rattle.box_tree.proofs.PlacedLemmas.{id-placed_in, trees_from, trees_from-all, IsChildAt, page-at_places}
 use Rattle.box_tree.proofs.SubtreeLemmas.{at_place, place, the_child, children_is, parent_above, IsAbove}
 use Rattle.box_tree.proofs.MoveLemmas.{each-placed}
-use Rattle.box_tree.proofs.PlanLemmas.{id-placed_in}
 use Rattle.box_tree.specs.Containing.{parent_of}
 use Rattle.stacking.specs.Painting.{Share, at, share_of, shares_of, shares_in}
 use Rattle.stacking.specs.OnPage.{of_node, gathered_in, gathered}

@@ -27,7 +27,8 @@ impl Page {
     pub(super) fn is_full_for(&self, count: usize) -> bool
         ensures { result ≡ is_full_for self.now.contents count }
     {
-        self.nodes.len() >= NODES || (self.frame.next > IDS || has_too_many_boxes(count, self.frame.boxes))
+        self.nodes.len() >= NODES
+            || (self.frame.next > IDS || has_too_many_boxes(count, self.frame.boxes))
     }
 
     // Whether a node that is placed has too many boxes, or the page then.

@@ -16,7 +16,13 @@ use fractions::Spot;
 
 impl Page {
     // The first fault of a place.
-    fn fault_of_place(&self, id: u32, anchor: Spot, boxes: &PieceList, max: Spot) -> Option<EditFault>
+    fn fault_of_place(
+        &self,
+        id: u32,
+        anchor: Spot,
+        boxes: &PieceList,
+        max: Spot,
+    ) -> Option<EditFault>
         ensures { result ≡ first_fault self.now.contents (Place id anchor boxes.now max) }
     {
         if !self.has(id) {

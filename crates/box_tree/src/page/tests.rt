@@ -13,6 +13,7 @@ use std::test::Fail;
 mod counts;
 mod kinds;
 mod layouts;
+mod reverts;
 mod scrolls;
 
 // A box of 100 by 100 units for each corner.

@@ -9,8 +9,12 @@ use Rattle.box_tree.proofs.PlanLemmas.{state_of, Carries, taken_as, CanAdd, can_
 use Rattle.box_tree.proofs.page.Page.add.Goals as goal
 
 pub frame_with-self-inside-requires-clause-boxes : goal.frame_with-self-inside-requires-clause-boxes
-frame_with-self-inside-requires-clause-boxes c = omega (arith, c.count.ensures, (can_add c.self.inside.nodes c.self.inside.frame c.self.invariant c.args.node c.args.siblings c.args.edit.now.value c.give_children-siblings.new.nodes
-    (subst (λ (page : PageState). IsPlanned (AddNode c.args.node c.args.siblings) c.args.edit.now.value page) (sym c.self.view_is) c.requires) c.give_children-siblings.ensures.changed).boxes)
+frame_with-self-inside-requires-clause-boxes c = omega (
+  arith,
+  c.count.ensures,
+  (can_add c.self.inside.nodes c.self.inside.frame c.self.invariant c.args.node c.args.siblings c.args.edit.now.value c.give_children-siblings.new.nodes
+      (subst (λ (page : PageState). IsPlanned (AddNode c.args.node c.args.siblings) c.args.edit.now.value page) (sym c.self.view_is) c.requires) c.give_children-siblings.ensures.changed).boxes,
+)
 
 can : (c : goal.After-put-arg-1) → CanAdd c.self.inside.nodes c.self.inside.frame c.self.invariant c.args.node c.args.siblings c.give_children-siblings.new.nodes
 can c = can_add c.self.inside.nodes c.self.inside.frame c.self.invariant c.args.node c.args.siblings c.args.edit.now.value c.give_children-siblings.new.nodes

@@ -31,9 +31,13 @@ boxes_of_all-requires c = boxes_few c.self.inside.nodes c.self.inside.frame c.se
     c.args.edit.now.value (subst (λ (page : PageState). IsPlanned (RemoveNodes c.args.parent c.args.siblings c.args.ids.now c.args.gone) c.args.edit.now.value page) (sym c.self.view_is) c.requires)
 
 pub overflow_sub-self : goal.overflow_sub-self
-overflow_sub-self c = omega (arith, c.boxes_of_all.ensures, boxes_fit c.self.inside.nodes c.self.inside.frame c.self.invariant c.args.parent c.args.siblings c.args.ids.now c.args.gone c.give_children-siblings.new.nodes c.take_all.new.nodes c.take_all.new.gone
-    c.give_children-siblings.ensures.changed c.take_all.ensures.looked_up c.take_all.ensures.count c.take_all.ensures.same_room c.take_all.ensures.ids c.take_all.ensures.nodes
-    c.args.edit.now.value (subst (λ (page : PageState). IsPlanned (RemoveNodes c.args.parent c.args.siblings c.args.ids.now c.args.gone) c.args.edit.now.value page) (sym c.self.view_is) c.requires))
+overflow_sub-self c = omega (
+  arith,
+  c.boxes_of_all.ensures,
+  boxes_fit c.self.inside.nodes c.self.inside.frame c.self.invariant c.args.parent c.args.siblings c.args.ids.now c.args.gone c.give_children-siblings.new.nodes c.take_all.new.nodes c.take_all.new.gone
+      c.give_children-siblings.ensures.changed c.take_all.ensures.looked_up c.take_all.ensures.count c.take_all.ensures.same_room c.take_all.ensures.ids c.take_all.ensures.nodes
+      c.args.edit.now.value (subst (λ (page : PageState). IsPlanned (RemoveNodes c.args.parent c.args.siblings c.args.ids.now c.args.gone) c.args.edit.now.value page) (sym c.self.view_is) c.requires),
+)
 
 carried : (c : goal.After-self-2-1) → Carries c.take_all.new.nodes (record c.self.inside.frame { boxes = c.self.inside.frame.boxes - c.boxes_of_all.result; root = c.root_without-self-inside.result }) (Removed c.args.parent c.give_children-siblings.result c.take_all.new.gone) (state_of c.self.inside.nodes c.self.inside.frame) c.args.edit.now.value
 carried c =
