@@ -11,7 +11,7 @@ use Rattle.box_tree.proofs.PlanLemmas.{state_of, Carries, taken_as}
 use Rattle.box_tree.proofs.ScrollLemmas.{planned-scroll_view}
 use Rattle.box_tree.proofs.page.Page.scroll_view.Goals as goal
 
-carried : (c : goal.After-self-1) → Carries c.self.inside.nodes (record c.self.inside.frame { viewport = record c.self.inside.frame.viewport { scroll = c.clamp-scroll.result } }) Untouched (state_of c.self.inside.nodes c.self.inside.frame) c.args.edit.now.value
+carried : (c : goal.After-scroll-1) → Carries c.self.inside.nodes (record c.self.inside.frame { viewport = record c.self.inside.frame.viewport { scroll = c.clamp-scroll.result } }) Untouched (state_of c.self.inside.nodes c.self.inside.frame) c.args.edit.now.value
 carried c =
     let seen : Spot → Viewport = (λ scroll. record c.self.inside.frame.viewport { scroll = scroll }) in
     planned-scroll_view c.self.inside.nodes c.self.inside.frame (record c.self.inside.frame { viewport = record c.self.inside.frame.viewport { scroll = c.clamp-scroll.result } }) c.args.to c.args.edit.now.value c.self.invariant
