@@ -214,6 +214,7 @@ fault_number fault.Cycle = Some 7
 fault_number fault.Place = Some 8
 fault_number fault.Deep = Some 9
 fault_number fault.Full = Some 10
+fault_number fault.Bound = Some 11
 fault_number fault.OutOfMemory = None
 
 -- the name of a fault in replies, as its bytes
@@ -225,4 +226,5 @@ fault_name fault.Cycle = codes "cycle"
 fault_name fault.Place = codes "place"
 fault_name fault.Deep = codes "deep"
 fault_name fault.Full = codes "full"
+fault_name fault.Bound = codes "bound"
 fault_name fault.OutOfMemory = codes "memory"

@@ -158,6 +158,8 @@ pub enum EditFault {
     Deep,
     #[error("the page is full")]
     Full,
+    #[error("a map on the way to a node would pass the bound")]
+    Bound,
     #[error("out of memory")]
     OutOfMemory,
 }
@@ -175,6 +177,7 @@ impl EditFault {
             EditFault::Place => Some(8),
             EditFault::Deep => Some(9),
             EditFault::Full => Some(10),
+            EditFault::Bound => Some(11),
             EditFault::OutOfMemory => None,
         }
     }
@@ -191,6 +194,7 @@ impl EditFault {
             EditFault::Place => "place",
             EditFault::Deep => "deep",
             EditFault::Full => "full",
+            EditFault::Bound => "bound",
             EditFault::OutOfMemory => "memory",
         }
     }

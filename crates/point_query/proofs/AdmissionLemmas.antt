@@ -45,6 +45,14 @@ elements_of-seen page x y item node at seen at_is =
     by_test true = ap (λ (e : ℕ). e ∷ []) element_is
     by_test false = refl
 
+-- no item of a node without a local point is admitted
+pub elements_of-nowhere : (page : Contents) (x y : ℤ) (item : Item) → local_point page item.node x y ≡ None → elements_of page x y (item ∷ []) ≡ []
+elements_of-nowhere page x y item none = ap (λ b. map (element_of page) (cond b (item ∷ []) [])) (by_place (placed_of page item.node))
+  where
+    by_place : (o : Option Placed) → option_map_or (λ p. option_map_or (part_holds p.label item.part) (local_point page item.node x y) false) o false ≡ false
+    by_place None = refl
+    by_place (Some p) = ap (λ (o : Option FinePoint). option_map_or (part_holds p.label item.part) o false) none
+
 -- a span that begins before a coordinate holds it where it ends after it
 pub lies_between-from : (from before at : ℤ) → (pos 64 *ℤ from) ≤ℤ at → lies_between from before at ≡ int_lt at (pos 64 *ℤ before)
 lies_between-from from before at begun = grind (arith, ints)

@@ -141,6 +141,7 @@ fn faults_have_their_names(rt: HostRuntime) {
         (EditFault::Place, Some(8), "place"),
         (EditFault::Deep, Some(9), "deep"),
         (EditFault::Full, Some(10), "full"),
+        (EditFault::Bound, Some(11), "bound"),
         (EditFault::OutOfMemory, None, "memory"),
     ] {
         assert_eq!(rt; fault.number(), number);
