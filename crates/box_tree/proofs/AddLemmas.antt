@@ -1,7 +1,7 @@
 -- The page with a node more: what no fault means, that it is valid, and that it is what the nodes then mean.
-use Rattle.std.proofs.Common.{◌≡◌, ◌≢◌, ◌⊎◌, ℕ, zero, suc, ◌+◌, ◌<◌, ◌≤◌, ◌==◌, List, [], ◌∷◌, ◌++◌, length, get_or, set, slice_get, Option, Some, None, is_some, true, false, Bool, if◌then◌else◌, not, refl, sym, ap, ◌∙◌, subst, inl, inr, arith}
+use Rattle.std.proofs.Common.{◌≡◌, ◌≢◌, ◌⊎◌, ℕ, ◌+◌, ◌<◌, ◌≤◌, ◌==◌, List, [], ◌∷◌, length, Option, Some, None, is_some, true, false, Bool, if◌then◌else◌, not, refl, sym, ap, ◌∙◌, subst, inl, inr, arith}
 use Rattle.std.specs.Prelude.{◌&&◌, ◌||◌}
-use Rattle.std.specs.Option.{option_or, option_map, option_map_or}
+use Rattle.std.specs.Option.{option_or, option_map, option_map_or, option_to_list}
 use Rattle.std.specs.List.{insert}
 use Rattle.std.proofs.lemmas.Bool.{cases_lt, cases_eq}
 use Rattle.std.proofs.lemmas.Bool.Decides.{nat_tests}
@@ -11,17 +11,18 @@ use Rattle.box_tree.specs.declared.piece.Piece.{Piece}
 use Rattle.box_tree.specs.declared.node.Node.{Node}
 use Rattle.box_tree.specs.declared.edit.Edit.TheVariants.{Add}
 use Rattle.box_tree.specs.declared.edit.EditFault.{EditFault}
-use Rattle.box_tree.specs.Forest.{Label, End, node_count, occurrences}
+use Rattle.box_tree.specs.Forest.{Label, Forest, End, Grow, roots_of, node_count, occurrences}
 use Rattle.box_tree.specs.Contents.{Contents, node_at, node_of, has_id, depth_below, new_label, IsSuited, IsGiven, IsValid}
 use Rattle.box_tree.specs.Suits.{has_no_parent, kind_suits, box_count_suits, style_suits}
 use Rattle.box_tree.specs.Totals.{box_count}
 use Rattle.box_tree.specs.Edited.{IsAddInRange, first_of, faults_of, first_fault, put_below, ancestors_below, child_count}
-use Rattle.box_tree.specs.Kept.{IsKept}
-use Rattle.box_tree.proofs.ForestLemmas.{single, node_in, with_child, placed_in-absent, roots-put_below, occurrences-put_below, node_count-put_below, node_in-put_below, node_in-absent}
+use Rattle.box_tree.specs.Kept.{with_children, IsKept}
+use Rattle.box_tree.specs.Nodes.{changed_at}
+use Rattle.box_tree.specs.Planned.{children_with}
+use Rattle.box_tree.proofs.ForestLemmas.{single, node_in, with_child, placed_in-absent, roots-put_below, occurrences-put_below, node_count-put_below, node_in-put_below, node_in-absent, or-none}
 use Rattle.box_tree.proofs.KeptPages.{unscrolled}
-use Rattle.box_tree.proofs.KeptLemmas.{node_with-at, node_with-push, node_with-set, rising-set, rising-push, id_at-set}
-use Rattle.std.proofs.Common.{length-append}
-use Rattle.std.proofs.Math.ListN.{length-set}
+use Rattle.box_tree.proofs.KeptLemmas.{changed-none, child_more}
+use Rattle.box_tree.proofs.PlacedLemmas.{id-node_of}
 use Rattle.box_tree.proofs.TotalLemmas.{total-put_below}
 use Rattle.box_tree.proofs.PutLemmas.{given-absent, each-put_below, each-map, height-put_below}
 use mathlib.Core.Bool.{false≢true}
@@ -157,51 +158,49 @@ module _ (page : Contents) (valid : IsValid page) (parent at : ℕ) (kind : Kind
   node_in-new : (above : List Label) (id : ℕ) → node_in above (single label End) id ≡ (if page.next == id then Some (node_at (record { label = label; above = above; below = End })) else None)
   node_in-new above id = grind (arith, nat_tests)
 
-  -- the ids of the nodes were all given before
-  ids_given : (nodes : List Node) (first : Option ℕ) → IsKept nodes first page → (i : ℕ) (d : Node) → i < length nodes → (get_or nodes i d).id < page.next
-  ids_given nodes first kept i d within = elim (cases_lt (get_or nodes i d).id page.next) [
-    | inl before ↦ before
-    | inr late ↦ absurd (none_there nodes i d within
-        (sym (node_with-at nodes 0 i (get_or nodes i d).id d kept.rising within refl)
-        ∙ kept.looked_up (get_or nodes i d).id ∙ node_in-absent page.tree [] (get_or nodes i d).id (given-absent page.tree [] page.next (get_or nodes i d).id valid.given (inr late))))
-  ]
-    where
-      none_there : (ns : List Node) (j : ℕ) (e : Node) → j < length ns → slice_get ns j ≡ None → ⊥
-      none_there [] j e in_list none = omega arith
-      none_there (n ∷ ns) zero e in_list none = cc
-      none_there (n ∷ ns) (suc j) e in_list none = none_there ns j e (omega arith) none
+  -- nodes that are looked up as those of the page, with the new one, whose parent has these children
+  module _ (look new : ℕ → Option Node) (siblings : List ℕ) (looked_up : (k : ℕ) → look k ≡ node_of page k) (siblings_are : siblings ≡ children_with page parent at)
+      (known : (k : ℕ) → new k ≡ (if page.next == k then Some added_node else changed_at parent (with_children siblings) k (look k))) where
+    -- the new one was not there
+    pub new_unseen : look page.next ≡ None
+    new_unseen = looked_up page.next ∙ node_in-absent page.tree [] page.next new_absent
 
-  -- the nodes of the page with the new one as the root
-  pub kept-root : parent ≡ 0 → (first : Option ℕ) (nodes : List Node) → IsKept nodes first page → IsKept (nodes ++ added_node ∷ []) (Some page.next) (record page { tree = single label End; next = page.next + 1 })
-  kept-root none_named first nodes kept =
-      let no_nodes : nodes ≡ [] = nothing_in nodes (kept.count ∙ may.root none_named) in
-      record {
-        valid = valid-root none_named;
-        looked_up = λ id. rw (no_nodes, node_in-new [] id) (ap (λ above. if page.next == id then Some (node_at (record { label = label; above = above; below = End })) else None) (ap (ancestors_below page) none_named ∙ ancestors_below-none page valid));
-        rising = rw no_nodes (valid.next.0, tt);
-        root = refl;
-        count = rw no_nodes (omega arith);
-      }
-    where
-      nothing_in : (ns : List Node) → length ns ≡ 0 → ns ≡ []
-      nothing_in [] none = refl
-      nothing_in (n ∷ ns) none = absurd (omega arith)
+    -- as the root
+    pub kept-root : parent ≡ 0 → IsKept new (Some page.next) (record page { tree = single label End; next = page.next + 1 })
+    kept-root none_named = record {
+      valid = valid-root none_named;
+      looked_up = λ id.
+          known id ∙ ap (λ o. if page.next == id then Some added_node else changed_at parent (with_children siblings) id o) (looked_up id ∙ node_in-absent page.tree [] id (nothing page.tree id (may.root none_named)))
+          ∙ ap (λ o. if page.next == id then Some added_node else o) (changed-none parent (with_children siblings) id)
+          ∙ ap (λ above. if page.next == id then Some (node_at (record { label = label; above = above; below = End })) else None) (ap (ancestors_below page) none_named ∙ ancestors_below-none page valid)
+          ∙ sym (node_in-new [] id);
+      root = refl;
+    }
+      where
+        nothing : (f : Forest) (id : ℕ) → node_count f ≡ 0 → occurrences f id ≡ 0
+        nothing End id none = refl
+        nothing (Grow n below others) id none = absurd (omega arith)
 
-  -- the nodes of the page with the new one as a child
-  pub kept-below : has_id page parent ≡ true → (first : Option ℕ) (nodes : List Node) (i : ℕ) (n : Node) → IsKept nodes first page → slice_get nodes i ≡ Some n → n.id ≡ parent →
-      IsKept (set nodes i (record n { children = insert n.children at page.next }) ++ added_node ∷ []) first (record page { tree = put_below parent at label End page.tree; next = page.next + 1 })
-  kept-below there first nodes i n kept is same =
-      let once = once_there page parent valid there in
-      let changed = set nodes i (record n { children = insert n.children at page.next }) in
-      record {
-        valid = valid-below there;
-        looked_up = λ id.
-            node_with-push changed added_node id
-            ∙ ap (λ found. option_or found (if page.next == id then Some added_node else None)) (node_with-set parent at page.next nodes 0 i id n kept.rising is same ∙ ap (option_map (with_child parent at page.next)) (kept.looked_up id))
-            ∙ ap (option_or (option_map (with_child parent at page.next) (node_of page id))) (sym (node_in-new (ancestors_below page parent) id))
-            ∙ sym (node_in-put_below page.tree [] parent at label End id once may.place (grind (arith, nat_tests, new_absent, valid.distinct id)));
-        rising = rising-push changed 0 added_node (rising-set nodes 0 i n _ kept.rising is refl) valid.next.0
-            (λ j d within. rw (id_at-set nodes i n (record n { children = insert n.children at page.next }) j d is refl) (ids_given nodes first kept j d (omega (arith, length-set nodes i (record n { children = insert n.children at page.next })))));
-        root = kept.root ∙ sym (roots-put_below page.tree parent at label End);
-        count = rw (node_count-put_below page.tree parent at label End once) (omega (arith, kept.count, length-append changed (added_node ∷ []), length-set nodes i (record n { children = insert n.children at page.next })));
-      }
+    -- as a child
+    pub kept-below : has_id page parent ≡ true → (first : Option ℕ) → option_to_list first ≡ roots_of page.tree → IsKept new first (record page { tree = put_below parent at label End page.tree; next = page.next + 1 })
+    kept-below there first root = record {
+      valid = valid-below there;
+      looked_up = λ id.
+          known id ∙ ap (λ o. if page.next == id then Some added_node else changed_at parent (with_children siblings) id o) (looked_up id)
+          ∙ in_form id
+          ∙ ap (option_or (option_map (with_child parent at page.next) (node_of page id))) (sym (node_in-new (ancestors_below page parent) id))
+          ∙ sym (node_in-put_below page.tree [] parent at label End id (once_there page parent valid there) may.place (grind (arith, nat_tests, new_absent, valid.distinct id)));
+      root = root ∙ sym (roots-put_below page.tree parent at label End);
+    }
+      where
+        in_form : (id : ℕ) → (if page.next == id then Some added_node else changed_at parent (with_children siblings) id (node_of page id)) ≡ option_or (option_map (with_child parent at page.next) (node_of page id)) (if page.next == id then Some added_node else None)
+        in_form id = elim (cases_eq page.next id) [
+          | inl here ↦
+              let is : (page.next == id) ≡ true = grind (arith, nat_tests) in
+              let unseen : node_of page id ≡ None = ap (node_of page) (sym here) ∙ node_in-absent page.tree [] page.next new_absent in
+              rw (is, unseen) refl
+          | inr other ↦
+              let is : (page.next == id) ≡ false = grind (arith, nat_tests) in
+              rw (is, or-none (option_map (with_child parent at page.next) (node_of page id)))
+              (child_more parent at page.next siblings id (node_of page id) (λ n seen. id-node_of page id n seen) (λ here. siblings_are ∙ ap (λ k. option_map_or (λ (n : Node). insert n.children at page.next) (node_of page k) []) here))
+        ]

@@ -13,9 +13,8 @@ use Rattle.box_tree.specs.Kept.{label_of}
 use Rattle.box_tree.specs.Used.{used_position, is_real_context}
 use Rattle.box_tree.specs.Containing.{parent_of, may_hold, outermost, holder_among, holders_among, Standing, containing_block_chain, containing_block, makes_context}
 use Rattle.box_tree.proofs.AddLemmas.{ancestors_below-none}
-use Rattle.box_tree.proofs.PlacedLemmas.{page-at_places, IsSeenAt, seen_at}
-use Rattle.box_tree.proofs.PlanLemmas.{id-placed_in}
-use Rattle.box_tree.proofs.SubtreeLemmas.{IsAbove, parent_above}
+use Rattle.box_tree.proofs.PlacedLemmas.{id-placed_in, page-at_places, IsSeenAt, seen_at}
+use Rattle.box_tree.proofs.SubtreeLemmas.{parent_above}
 
 -- a node that stands in the page below these ancestors
 pub record StandsBelow (page : Contents) (n : Label) (above : List Label) : Type 0 where

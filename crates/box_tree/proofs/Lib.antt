@@ -1,5 +1,6 @@
 pub mod ForestLemmas
 pub mod Grown
+pub mod NodesLemmas
 pub mod PutLemmas
 pub mod KeptLemmas
 pub mod KeptPages
@@ -17,3 +18,6 @@ pub mod PlaceLemmas
 pub mod BoxLemmas
 pub mod ContainingLemmas
 pub mod RestyleLemmas
+pub mod ChangeLemmas
+pub mod RevertLemmas
+pub mod ExchangeLemmas

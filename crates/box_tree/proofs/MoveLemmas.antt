@@ -1,6 +1,7 @@
 -- A page with a node moved, and all below it: what no fault means, that it is valid, and that it is what the nodes mean
 -- once they are relocated.
-use Rattle.std.proofs.Common.{◌≡◌, ◌≢◌, ℕ, ◌+◌, ◌-◌, ◌<◌, ◌≤◌, ◌==◌, List, [], ◌∷◌, ◌++◌, length, map, set, slice_get, Option, Some, None, IsSome, is_some, true, false, Bool, not, if◌then◌else◌, refl, sym, ap, ◌∙◌, subst, inl, inr, arith, length-append}
+use Rattle.std.proofs.Common.{◌≡◌, ◌≢◌, ℕ, ◌+◌, ◌-◌, ◌^◌, ◌<◌, ◌≤◌, ◌==◌, min, List, [], ◌∷◌, ◌++◌, length, Option, Some, None, is_some, true, false, Bool, not, if◌then◌else◌, refl, sym, ap, ◌∙◌, subst, inl, inr, arith, length-append}
+use mathlib.Core.Bool.{false≢true}
 use Rattle.std.specs.Prelude.{nat_lt, ◌||◌}
 use Rattle.std.specs.Option.{option_or, option_map, option_map_or}
 use Rattle.std.specs.List.{insert}
@@ -9,28 +10,30 @@ use Rattle.std.proofs.lemmas.Bool.Decides.{nat_tests}
 use Rattle.box_tree.specs.declared.node.Node.{Node}
 use Rattle.box_tree.specs.declared.edit.Edit.{Edit}
 use Rattle.box_tree.specs.declared.edit.Edit.TheVariants.{Move}
+use Rattle.box_tree.specs.declared.plan.Frame.{Frame}
 use Rattle.box_tree.specs.declared.plan.Relocation.{Relocation}
 use Rattle.box_tree.specs.declared.plan.Plan.TheVariants.{MoveNodes}
-use Rattle.box_tree.specs.Forest.{Label, Forest, End, Grow, roots_of, node_count, height_of, occurrences, Placed, placed_in, EachNode}
+use Rattle.box_tree.specs.declared.plan.Taken.TheVariants.{Moved}
+use Rattle.box_tree.specs.Forest.{Label, Forest, End, Grow, roots_of, ids_in, node_count, height_of, occurrences, Placed, placed_in, EachNode}
 use Rattle.box_tree.specs.Contents.{Contents, node_at, node_of, placed_of, tree_of, has_id, parent_id, IsGiven, IsSuited, IsValid}
+use Rattle.box_tree.specs.Counted.{IsCounted}
 use Rattle.box_tree.specs.Suits.{has_no_parent, kind_suits, box_count_suits}
 use Rattle.box_tree.specs.Totals.{box_count}
-use Rattle.box_tree.specs.Edited.{kind_may_move, taken_out, put_below, moved, page_without, is_root, ancestors_below, child_count, first_fault, faults_of}
-use Rattle.box_tree.specs.Kept.{node_with, IsRisingFrom, IsKept}
-use Rattle.box_tree.specs.PageState.{PageState}
-use Rattle.box_tree.specs.Planned.{ids_without, is_among, children_without, relocated, relocated_among, IsPlaceFor, IsPlanned}
+use Rattle.box_tree.specs.Edited.{kind_may_move, taken_out, put_below, moved, edited, page_without, is_root, ancestors_below, child_count, first_fault, faults_of}
+use Rattle.box_tree.specs.Kept.{node_with, with_children, IsKept}
+use Rattle.box_tree.specs.Nodes.{NodesState, changed_at, HasSameRoom}
+use Rattle.box_tree.specs.Planned.{ids_without, is_among, times_in, children_without, relocated, relocated_at, moved_at, back_from, IsPlaceFor, IsPlanned}
 use Rattle.box_tree.proofs.ForestLemmas.{single, placed_in-head, placed_in-present, node_in, with_child, ancestors_in, if_map, or-none, node_in-cons, node_in-absent, node_in-put_below, occurrences-put_below, roots-put_below, node_count-put_below}
 use Rattle.box_tree.proofs.PutLemmas.{each-put_below, height-put_below}
-use Rattle.box_tree.proofs.KeptLemmas.{node_with-slice, node_with-replaced, rising-set, other_child}
+use Rattle.box_tree.proofs.KeptLemmas.{changed-here, changed-other, child_more, children-back, relocated-among, relocated-apart, relocated-changed}
 use Rattle.box_tree.proofs.AddLemmas.{none_holds, not_false, once_there}
-use Rattle.box_tree.proofs.PlacedLemmas.{page-at_places, found-at_places, AreAtPlaces, depth-placed_in, seen_at}
-use Rattle.box_tree.proofs.PlanLemmas.{MeansEdited, means_edited, id-placed_in, is_some-node_at}
-use Rattle.box_tree.proofs.SubtreeLemmas.{Head, Deeper, Beside, found_in, IsAbove, parent_above, placed-at_places}
+use Rattle.box_tree.proofs.CountLemmas.{times_in-ids_in}
+use Rattle.box_tree.proofs.PlacedLemmas.{id-placed_in, page-at_places, found-at_places, AreAtPlaces, depth-placed_in}
+use Rattle.box_tree.proofs.PlanLemmas.{state_of, Carries, carries}
+use Rattle.box_tree.proofs.SubtreeLemmas.{Head, Deeper, Beside, found_in, IsAbove, parent_above, placed-at_places, is_among-ids_in}
 use Rattle.box_tree.proofs.TakenLemmas.{height-taken_out, each-taken_out, roots-taken_out, length-ids_without, place_without, placed_in-taken_out, occurrences-parted, node_count-parted}
-use Rattle.box_tree.proofs.RemoveLemmas.{node_without, other_node, placed_below}
+use Rattle.box_tree.proofs.RemoveLemmas.{node_at-without, other_node, placed_below}
 use Rattle.box_tree.proofs.TotalLemmas.{total-put_below, total-parted}
-use Rattle.box_tree.proofs.CountLemmas.{count-looked_up}
-use mathlib.Core.Bool.{false≢true}
 
 -- a move without a fault
 pub record MayMove (page : Contents) (id parent at : ℕ) : Type 0 where
@@ -125,27 +128,6 @@ ids_without-none : (ids : List ℕ) (id : ℕ) → is_among ids id ≡ false →
 ids_without-none [] id none = refl
 ids_without-none (first ∷ ids) id none = grind (arith, nat_tests, ids_without-none ids id)
 
--- looking an id up where each node keeps its id
-pub node_with-map : (g : Node → Node) → ((n : Node) → (g n).id ≡ n.id) → (nodes : List Node) (id : ℕ) → node_with (map g nodes) id ≡ option_map g (node_with nodes id)
-node_with-map g keeps [] id = refl
-node_with-map g keeps (n ∷ nodes) id = grind (arith, nat_tests, keeps n, node_with-map g keeps nodes id)
-
-pub rising-map : (g : Node → Node) → ((n : Node) → (g n).id ≡ n.id) → (nodes : List Node) (low : ℕ) → IsRisingFrom low nodes → IsRisingFrom low (map g nodes)
-rising-map g keeps [] low rising = tt
-rising-map g keeps (n ∷ nodes) low rising = (omega (arith, keeps n, rising.0), subst (λ k. IsRisingFrom k (map g nodes)) (sym (keeps n)) (rising-map g keeps nodes n.id rising.1))
-
-pub id-relocated_among : (r : Relocation) (ids : List ℕ) (n : Node) → (relocated_among r ids n).id ≡ n.id
-id-relocated_among r ids n = by_test (is_among ids n.id)
-  where
-    by_test : (b : Bool) → (if b then relocated r n else n).id ≡ n.id
-    by_test true = refl
-    by_test false = refl
-
--- a node that is not moved is not relocated, and one that is moved is
-not_relocated : (r : Relocation) (ids : List ℕ) (nodes : List Node) (id : ℕ) → is_among ids id ≡ false → option_map (relocated_among r ids) (node_with nodes id) ≡ node_with nodes id
-not_relocated r ids [] id apart = refl
-not_relocated r ids (n ∷ nodes) id apart = grind (arith, nat_tests, not_relocated r ids nodes id)
-
 module _ (page : Contents) (valid : IsValid page) (id parent at : ℕ) (q : Placed) (found : placed_of page id ≡ Some q) (may : MayMove page id parent at) where
   abbrev rest : Forest
   rest = taken_out id page.tree
@@ -174,7 +156,7 @@ module _ (page : Contents) (valid : IsValid page) (id parent at : ℕ) (q : Plac
       by_place None = refl
       by_place (Some p) = refl
 
-  abbrev new_page : Contents
+  abbrev pub new_page : Contents
   new_page = record page { tree = put_below parent at q.label q.below rest }
 
   -- the node has a parent, which stays
@@ -231,6 +213,10 @@ module _ (page : Contents) (valid : IsValid page) (id parent at : ℕ) (q : Plac
   pub boxes_stay : box_count (put_below parent at q.label q.below rest) ≡ box_count page.tree
   boxes_stay = omega (arith, total-put_below (λ n. length n.boxes) rest parent at q.label q.below once, total-parted (λ n. length n.boxes) page.tree [] id (valid.distinct id), ap box_count tree_is)
 
+  -- and as many nodes
+  pub nodes_stay : node_count (put_below parent at q.label q.below rest) ≡ node_count page.tree
+  nodes_stay = node_count-put_below rest parent at q.label q.below once ∙ omega (arith, node_count-parted page.tree [] id (valid.distinct id), ap node_count tree_is)
+
   valid-moved : IsValid new_page
   valid-moved = record {
     one_tree = rw (roots-put_below rest parent at q.label q.below, roots-taken_out page.tree id) (omega (arith, length-ids_without (roots_of page.tree) id, valid.one_tree));
@@ -244,7 +230,10 @@ module _ (page : Contents) (valid : IsValid page) (id parent at : ℕ) (q : Plac
     viewport = valid.viewport;
   }
 
-  module _ (r : Relocation) (place : IsPlaceFor page id parent r) (ids : List ℕ) (ids_are : (other : ℕ) → is_among ids other ≡ nat_lt 0 (occurrences (tree_of page id) other)) where
+  module _ (r : Relocation) (place : IsPlaceFor page id parent r) (ids : List ℕ) (ids_is : ids ≡ ids_in (tree_of page id)) where
+    ids_are : (other : ℕ) → is_among ids other ≡ nat_lt 0 (occurrences (tree_of page id) other)
+    ids_are other = ap (λ xs. is_among xs other) ids_is ∙ is_among-ids_in (tree_of page id) other
+
     abbrev new_above : List Label
     new_above = ancestors_in [] rest parent
 
@@ -287,123 +276,150 @@ module _ (page : Contents) (valid : IsValid page) (id parent at : ℕ) (q : Plac
       | Beside other is' ↦ absurd cc
     ]
 
-    module _ (first : Option ℕ) (nodes : List Node) (i : ℕ) (n : Node) (j : ℕ) (m : Node) (siblings children : List ℕ) (kept : IsKept nodes first page) (is : slice_get nodes i ≡ Some n) (same : n.id ≡ r.from) (siblings_are : siblings ≡ ids_without id n.children)
-        (is' : slice_get (set nodes i (record n { children = siblings })) j ≡ Some m) (same' : m.id ≡ parent) (children_are : children ≡ insert (children_without page parent id) at id) where
-      abbrev one : List Node
-      one = set nodes i (record n { children = siblings })
+    -- a node of the moved tree, as a reader sees it, is relocated and then goes back
+    goes_back : (k : ℕ) → is_among ids k ≡ true → option_map (relocated (back_from r)) (option_map (relocated r) (node_of page k)) ≡ node_of page k
+    goes_back k among =
+        let is : nat_lt 0 (occurrences moved_tree k) ≡ true = sym (ids_are k ∙ ap (λ f. nat_lt 0 (occurrences f k)) tree_is) ∙ among in
+        let some : 0 < occurrences moved_tree k = grind (arith, nat_tests) in
+        let placed = placed-at_places page moved_tree q.above k moved_at_places some in
+        by_place (placed_of page k) refl (λ p is_placed. sym placed ∙ is_placed)
+      where
+        depth_back : (d old new : ℕ) → old ≤ d → d ≤ 256 → new ≤ 256 → min (min (d - old + new) (2 ^ 32 - 1) - new + old) (2 ^ 32 - 1) ≡ d
+        depth_back d old new least most new_most = omega arith
 
-      abbrev two : List Node
-      two = set one j (record m { children = children })
+        parent_back : (p : Placed) → placed_of page k ≡ Some p → (b : Bool) → (p.label.id == r.id) ≡ b → (if b then r.from else (if b then r.parent else parent_id p.above)) ≡ parent_id p.above
+        parent_back p is_placed false is_other = refl
+        parent_back p is_placed true is_same =
+            let same : p.label.id ≡ r.id = grind (arith, nat_tests) in
+            let same_place : Some q ≡ Some p = sym found ∙ ap (placed_of page) (sym (sym (id-placed_in page.tree [] k p is_placed) ∙ same ∙ place.id_is)) ∙ is_placed in
+            let q_is : q ≡ p = cc in
+            sym from_is ∙ ap (λ (x : Placed). parent_id x.above) q_is
 
-      rising_one : IsRisingFrom 0 one
-      rising_one = rising-set nodes 0 i n _ kept.rising is refl
+        by_place : (o : Option Placed) → placed_of page k ≡ o → ((p : Placed) → placed_of page k ≡ Some p → placed_in q.above moved_tree k ≡ Some p) → option_map (relocated (back_from r)) (option_map (relocated r) (option_map node_at o)) ≡ option_map node_at o
+        by_place None is_placed in_tree = refl
+        by_place (Some p) is_placed in_tree =
+            let least = above-placed_in moved_tree q.above k p (in_tree p is_placed) in
+            let most = depth-placed_in page.tree [] k p is_placed in
+            ap Some (with_both (node_at p) _ _ _ _
+            (parent_back p is_placed (p.label.id == r.id) refl)
+            (depth_back (1 + length p.above) r.old_depth r.depth (omega (arith, least, old_depth_is)) (omega (arith, most, valid.depth)) (omega (arith, new_depth_is, levels_fit))))
 
-      find_two : (k : ℕ) → node_with two k ≡ (if m.id == k then Some (record m { children = children }) else (if n.id == k then Some (record n { children = siblings }) else node_with nodes k))
-      find_two k =
-          node_with-replaced one 0 j k m _ rising_one is' refl
-          ∙ ap (λ (o : Option Node). if m.id == k then Some (record m { children = children }) else o) (node_with-replaced nodes 0 i k n _ kept.rising is refl)
+    module _ (first : Option ℕ) (look look' : ℕ → Option Node) (siblings children : List ℕ) (kept : IsKept look first page) (siblings_are : siblings ≡ children_without page r.from id) (children_are : children ≡ insert (children_without page parent id) at id)
+        (looked_up : (k : ℕ) → look' k ≡ moved_at r siblings children ids k (look k)) where
+      -- what is looked up of an id once both parents have their children
+      abbrev two : ℕ → Option Node
+      two k = changed_at r.parent (with_children children) k (changed_at r.from (with_children siblings) k (node_of page k))
 
-      n_is : node_of page r.from ≡ Some n
-      n_is = sym (kept.looked_up r.from) ∙ ap (node_with nodes) (sym same) ∙ node_with-slice nodes 0 i n kept.rising is
+      -- and what is looked up of it on the page without the tree of the moved node
+      abbrev node_off : ℕ → Option Node
+      node_off k = option_map node_at (option_map (place_without id) (placed_of page k))
 
-      -- the new parent as a reader sees it, which has the same fields as the kept one but for its children
-      seen_parent : (n' : Node) × (node_of page parent ≡ Some n') × (record m { children = children } ≡ record n' { children = children })
-      seen_parent =
-          let m_is : Some m ≡ (if n.id == parent then Some (record n { children = siblings }) else node_with nodes parent) = sym (ap (node_with one) (sym same') ∙ node_with-slice one 0 j m rising_one is') ∙ node_with-replaced nodes 0 i parent n _ kept.rising is refl in
-          elim (cases_eq n.id parent) [
-            | inl here ↦
-                let m_is' : Some m ≡ Some (record n { children = siblings }) = m_is ∙ grind (arith, nat_tests) in
-                let m_eq : m ≡ record n { children = siblings } = cc in
-                (n, ap (node_of page) (sym here ∙ same) ∙ n_is, ap (λ (x : Node). record x { children = children }) m_eq)
-            | inr other ↦
-                let m_is' : Some m ≡ node_with nodes parent = m_is ∙ grind (arith, nat_tests) in
-                (m, sym (kept.looked_up parent) ∙ sym m_is', refl)
-          ]
-
-      stays_at : (k : ℕ) → 0 < occurrences rest k → node_with two k ≡ option_map (with_child parent at q.label.id) (option_map node_at (option_map (place_without id) (placed_of page k)))
-      stays_at k stays = elim (cases_eq k parent) [
-        | inl here ↦
-            let n' = seen_parent.0 in
-            let children_are' : children ≡ insert (ids_without id n'.children) at q.label.id = children_are ∙ ap (λ o. insert (option_map_or (λ (x : Node). ids_without id x.children) o []) at id) seen_parent.1 ∙ ap (insert (ids_without id n'.children) at) (sym id_is) in
-            rw here (find_two parent ∙ (let at_parent : (if m.id == parent then Some (record m { children = children }) else (if n.id == parent then Some (record n { children = siblings }) else node_with nodes parent)) ≡ Some (record m { children = children }) = grind (arith, nat_tests) in at_parent)
-            ∙ ap Some (seen_parent.2 ∙ ap (λ c. record n' { children = c }) children_are')
-            ∙ sym (ap (option_map (with_child parent at q.label.id)) (node_without page id parent n' seen_parent.1) ∙ ap Some (as_parent n' (id_seen parent n' seen_parent.1))))
-        | inr other ↦ elim (cases_eq k r.from) [
-          | inl at_from ↦
-              let apart : n.id ≢ parent = (λ here. other (at_from ∙ sym same ∙ here)) in
-              let apart' : m.id ≢ k = (λ here. other (sym here ∙ same')) in
-              rw at_from (find_two r.from ∙ (let at_old : (if m.id == r.from then Some (record m { children = children }) else (if n.id == r.from then Some (record n { children = siblings }) else node_with nodes r.from)) ≡ Some (record n { children = siblings }) = grind (arith, nat_tests) in at_old)
-              ∙ ap (λ c. Some (record n { children = c })) siblings_are
-              ∙ sym (ap (option_map (with_child parent at q.label.id)) (node_without page id r.from n n_is) ∙ ap Some (as_other (record n { children = ids_without id n.children }) apart)))
-          | inr elsewhere' ↦
-              let apart : n.id ≢ k = (λ here. elsewhere' (sym here ∙ same)) in
-              let apart' : m.id ≢ k = (λ here. other (sym here ∙ same')) in
-              find_two k ∙ (let at_none : (if m.id == k then Some (record m { children = children }) else (if n.id == k then Some (record n { children = siblings }) else node_with nodes k)) ≡ node_with nodes k = grind (arith, nat_tests) in at_none)
-              ∙ sym (ap (option_map (with_child parent at q.label.id)) (other_node page valid id q found r.from from_is k elsewhere' ∙ sym (kept.looked_up k)) ∙ other_child parent at q.label.id nodes k other)
-        ]
-      ]
+      stays_at : (k : ℕ) → two k ≡ option_map (with_child parent at q.label.id) (option_map node_at (option_map (place_without id) (placed_of page k)))
+      stays_at k =
+          ap (changed_at r.parent (with_children children) k) (without k)
+          ∙ ap (λ i. changed_at i (with_children children) k (node_off k)) place.parent_is
+          ∙ child_more parent at q.label.id children k (node_off k) (id_off k) (λ here. children_are ∙ ap (λ i. insert (children_without page parent id) at i) (sym id_is) ∙ ap (λ i. insert (children_without page i id) at q.label.id) here ∙ off_children k (ap (has_id page) (sym here) ∙ may.parent_there))
         where
-          as_parent : (x : Node) → x.id ≡ parent → with_child parent at q.label.id (record x { children = ids_without id x.children }) ≡ record x { children = insert (ids_without id x.children) at q.label.id }
-          as_parent x here = grind (arith, nat_tests)
+          id_off : (k' : ℕ) (n : Node) → node_off k' ≡ Some n → n.id ≡ k'
+          id_off k' n seen = by_place (placed_of page k') refl seen
+            where
+              by_place : (o : Option Placed) → placed_of page k' ≡ o → option_map node_at (option_map (place_without id) o) ≡ Some n → n.id ≡ k'
+              by_place None is_placed seen' = absurd cc
+              by_place (Some p) is_placed seen' = let same : node_at (place_without id p) ≡ n = cc in sym (ap (λ (x : Node). x.id) same) ∙ id-placed_in page.tree [] k' p is_placed
 
-          as_other : (x : Node) → x.id ≢ parent → with_child parent at q.label.id x ≡ x
-          as_other x apart = grind (arith, nat_tests)
+          -- the old parent has one child less, and every other node has its children
+          without : (k' : ℕ) → changed_at r.from (with_children siblings) k' (node_of page k') ≡ node_off k'
+          without k' = elim (cases_eq r.from k') [
+            | inl here ↦ changed-here r.from (with_children siblings) k' (node_of page k') here ∙ at_parent here (placed_of page k') refl
+            | inr other ↦ changed-other r.from (with_children siblings) k' (node_of page k') other ∙ sym (other_node page valid id q found r.from from_is k' (λ same. other (sym same)))
+          ]
+            where
+              at_parent : r.from ≡ k' → (o : Option Placed) → placed_of page k' ≡ o → option_map (with_children siblings) (option_map node_at o) ≡ option_map node_at (option_map (place_without id) o)
+              at_parent here None is_placed = refl
+              at_parent here (Some p) is_placed =
+                  ap (λ c. Some (with_children c (node_at p))) (siblings_are ∙ ap (λ o. option_map_or (λ (x : Node). ids_without id x.children) o []) (ap (node_of page) here ∙ ap (option_map node_at) is_placed))
+                  ∙ ap Some (sym (node_at-without id p))
 
-          id_seen : (k' : ℕ) (x : Node) → node_of page k' ≡ Some x → x.id ≡ k'
-          id_seen k' x seen =
-              let at = seen_at page k' x seen in
-              ap (λ (y : Node). y.id) (sym at.node_is) ∙ id-placed_in page.tree [] k' at.place at.found
+          off_children : (k' : ℕ) → has_id page k' ≡ true → insert (children_without page k' id) at q.label.id ≡ option_map_or (λ (n : Node). insert n.children at q.label.id) (node_off k') []
+          off_children k' there = by_place (placed_of page k') there
+            where
+              by_place : (o : Option Placed) → is_some o ≡ true → insert (option_map_or (λ (n : Node). ids_without id n.children) (option_map node_at o) []) at q.label.id ≡ option_map_or (λ (n : Node). insert n.children at q.label.id) (option_map node_at (option_map (place_without id) o)) []
+              by_place None is = absurd (false≢true is)
+              by_place (Some p) is = ap (λ c. insert c at q.label.id) (sym (roots-taken_out p.below id))
 
       new_is : (k : ℕ) → node_in [] (put_below parent at q.label q.below rest) k ≡ option_or (option_map (with_child parent at q.label.id) (node_in [] rest k)) (node_in new_above moved_tree k)
       new_is k = node_in-put_below rest [] parent at q.label q.below k once may.place (omega (arith, parted k, valid.distinct k))
 
-      known : (k : ℕ) → node_with (map (relocated_among r ids) two) k ≡ node_in [] (put_below parent at q.label q.below rest) k
-      known k = node_with-map (relocated_among r ids) (id-relocated_among r ids) two k ∙ elim (cases_lt 0 (occurrences rest k)) [
-        | inl stays ↦
-            let none : occurrences moved_tree k ≡ 0 = omega (arith, parted k, valid.distinct k) in
-            let keeps : is_among ids k ≡ false = ids_are k ∙ ap (λ f. nat_lt 0 (occurrences f k)) tree_is ∙ ap (nat_lt 0) none in
-            not_relocated r ids two k keeps ∙ stays_at k stays
-            ∙ sym (new_is k ∙ ap (option_or (option_map (with_child parent at q.label.id) (node_in [] rest k))) (node_in-absent moved_tree new_above k none) ∙ or-none (option_map (with_child parent at q.label.id) (node_in [] rest k))
-            ∙ ap (λ o. option_map (with_child parent at q.label.id) (option_map node_at o)) (placed_in-taken_out page.tree [] id k (valid.distinct k) stays))
-        | inr few ↦
-            let gone : occurrences rest k ≡ 0 = omega arith in
-            ap (option_map (relocated_among r ids)) (not_two k gone)
-            ∙ moved_at k gone
-            ∙ sym (new_is k ∙ ap (λ o. option_or (option_map (with_child parent at q.label.id) o) (node_in new_above moved_tree k)) (node_in-absent rest [] k gone))
-      ]
+      known : (k : ℕ) → look' k ≡ node_in [] (put_below parent at q.label q.below rest) k
+      known k =
+          looked_up k ∙ ap (moved_at r siblings children ids k) (kept.looked_up k)
+          ∙ elim (cases_lt 0 (occurrences rest k)) [
+            | inl stays ↦
+                let none : occurrences moved_tree k ≡ 0 = omega (arith, parted k, valid.distinct k) in
+                let keeps : is_among ids k ≡ false = ids_are k ∙ ap (λ f. nat_lt 0 (occurrences f k)) tree_is ∙ ap (nat_lt 0) none in
+                relocated-apart r ids k (two k) keeps ∙ stays_at k
+                ∙ sym (new_is k ∙ ap (option_or (option_map (with_child parent at q.label.id) (node_in [] rest k))) (node_in-absent moved_tree new_above k none) ∙ or-none (option_map (with_child parent at q.label.id) (node_in [] rest k))
+                ∙ ap (λ o. option_map (with_child parent at q.label.id) (option_map node_at o)) (placed_in-taken_out page.tree [] id k (valid.distinct k) stays))
+            | inr few ↦
+                let gone : occurrences rest k ≡ 0 = omega arith in
+                ap (relocated_at r ids k) (not_two k gone)
+                ∙ moved_at_place k gone
+                ∙ sym (new_is k ∙ ap (λ o. option_or (option_map (with_child parent at q.label.id) o) (node_in new_above moved_tree k)) (node_in-absent rest [] k gone))
+          ]
         where
-          not_two : (k' : ℕ) → occurrences rest k' ≡ 0 → node_with two k' ≡ node_of page k'
+          not_two : (k' : ℕ) → occurrences rest k' ≡ 0 → two k' ≡ node_of page k'
           not_two k' gone =
-              let apart' : m.id ≢ k' = (λ here. omega (arith, once, gone, ap (occurrences rest) (sym same' ∙ here))) in
-              let apart : n.id ≢ k' = (λ here. omega (arith, from_stays, gone, ap (occurrences rest) (sym (sym from_is ∙ ap parent_id old_parent.above_is) ∙ sym same ∙ here))) in
-              find_two k' ∙ (let at_none : (if m.id == k' then Some (record m { children = children }) else (if n.id == k' then Some (record n { children = siblings }) else node_with nodes k')) ≡ node_with nodes k' = grind (arith, nat_tests) in at_none) ∙ kept.looked_up k'
+              let apart' : r.parent ≢ k' = (λ here. omega (arith, once, gone, ap (occurrences rest) (sym place.parent_is ∙ here))) in
+              let apart : r.from ≢ k' = (λ here. omega (arith, from_stays, gone, ap (occurrences rest) (sym (sym from_is ∙ ap parent_id old_parent.above_is) ∙ here))) in
+              changed-other r.parent (with_children children) k' _ apart' ∙ changed-other r.from (with_children siblings) k' _ apart
 
-          moved_at : (k' : ℕ) → occurrences rest k' ≡ 0 → option_map (relocated_among r ids) (node_of page k') ≡ node_in new_above moved_tree k'
-          moved_at k' gone = elim (cases_lt 0 (occurrences moved_tree k')) [
-            | inl some ↦ by_place (placed_in q.above moved_tree k') refl (placed_in-present moved_tree q.above k' some) (placed-at_places page moved_tree q.above k' moved_at_places some) (ids_are k' ∙ ap (λ f. nat_lt 0 (occurrences f k')) tree_is ∙ grind (arith, nat_tests))
+          moved_at_place : (k' : ℕ) → occurrences rest k' ≡ 0 → relocated_at r ids k' (node_of page k') ≡ node_in new_above moved_tree k'
+          moved_at_place k' gone = elim (cases_lt 0 (occurrences moved_tree k')) [
+            | inl some ↦
+                let among : is_among ids k' ≡ true = ids_are k' ∙ ap (λ f. nat_lt 0 (occurrences f k')) tree_is ∙ grind (arith, nat_tests) in
+                relocated-among r ids k' (node_of page k') among
+                ∙ by_place (placed_in q.above moved_tree k') refl (placed_in-present moved_tree q.above k' some) (placed-at_places page moved_tree q.above k' moved_at_places some)
             | inr none ↦
-                ap (option_map (relocated_among r ids)) (node_in-absent page.tree [] k' (omega (arith, parted k', gone, none)))
+                ap (relocated_at r ids k') (node_in-absent page.tree [] k' (omega (arith, parted k', gone, none)))
+                ∙ relocated-none k'
                 ∙ sym (node_in-absent moved_tree new_above k' (omega (arith, none)))
           ]
             where
-              by_place : (o : Option Placed) → placed_in q.above moved_tree k' ≡ o → is_some o ≡ true → placed_of page k' ≡ placed_in q.above moved_tree k' → is_among ids k' ≡ true → option_map (relocated_among r ids) (node_of page k') ≡ node_in new_above moved_tree k'
-              by_place None at there placed goes = absurd (false≢true there)
-              by_place (Some p) at there placed goes =
-                  let among : is_among ids p.label.id ≡ true = ap (is_among ids) (id-placed_in moved_tree q.above k' p at) ∙ goes in
-                  ap (λ o. option_map (relocated_among r ids) (option_map node_at o)) (placed ∙ at)
-                  ∙ ap (λ b. Some (if b then relocated r (node_at p) else node_at p)) among
-                  ∙ sym (moved_node k' p at)
+              relocated-none : (j : ℕ) → relocated_at r ids j None ≡ None
+              relocated-none j = by_test (is_among ids j)
+                where
+                  by_test : (b : Bool) → (if b then option_map (relocated r) None else None) ≡ None
+                  by_test true = refl
+                  by_test false = refl
 
-      pub kept-moved : IsKept (map (relocated_among r ids) two) first new_page
-      kept-moved =
-          let rising = rising-map (relocated_among r ids) (id-relocated_among r ids) two 0 (rising-set one 0 j m _ rising_one is' refl) in
-          record {
-            valid = valid-moved;
-            looked_up = known;
-            rising = rising;
-            root = kept.root ∙ sym (roots-put_below rest parent at q.label q.below ∙ roots-taken_out page.tree id ∙ ids_without-none (roots_of page.tree) id may.child);
-            count = count-looked_up (map (relocated_among r ids) two) new_page rising valid-moved.distinct known;
-          }
+              by_place : (o : Option Placed) → placed_in q.above moved_tree k' ≡ o → is_some o ≡ true → placed_of page k' ≡ placed_in q.above moved_tree k' → option_map (relocated r) (node_of page k') ≡ node_in new_above moved_tree k'
+              by_place None at_none there placed = absurd (false≢true there)
+              by_place (Some p) at_some there placed =
+                  ap (λ o. option_map (relocated r) (option_map node_at o)) (placed ∙ at_some)
+                  ∙ sym (moved_node k' p at_some)
+
+      pub kept-moved : IsKept look' first new_page
+      kept-moved = record {
+        valid = valid-moved;
+        looked_up = known;
+        root = kept.root ∙ sym (roots-put_below rest parent at q.label q.below ∙ roots-taken_out page.tree id ∙ ids_without-none (roots_of page.tree) id may.child);
+      }
+
+      -- and back
+      pub moved-back : (had had' : List ℕ) → had ≡ option_map_or (λ (n : Node). n.children) (look r.from) siblings → had' ≡ option_map_or (λ (n : Node). n.children) (changed_at r.from (with_children siblings) r.parent (look r.parent)) children →
+          (k : ℕ) → moved_at (back_from r) had' had ids k (look' k) ≡ node_of page k
+      moved-back had had' had_is had'_is k =
+          let one : ℕ → Option Node = λ j. changed_at r.from (with_children siblings) j (look j) in
+          ap (moved_at (back_from r) had' had ids k) (looked_up k)
+          ∙ ap (λ o. relocated_at (back_from r) ids k (changed_at r.from (with_children had) k o)) (relocated-changed r ids r.parent had' k (changed_at r.parent (with_children children) k (one k)))
+          ∙ ap (λ o. relocated_at (back_from r) ids k (changed_at r.from (with_children had) k (relocated_at r ids k o))) (children-back r.parent children had' one had'_is k)
+          ∙ ap (relocated_at (back_from r) ids k) (relocated-changed r ids r.from had k (one k))
+          ∙ ap (λ o. relocated_at (back_from r) ids k (relocated_at r ids k o)) (children-back r.from siblings had look had_is k ∙ kept.looked_up k)
+          ∙ by_among (is_among ids k) refl
+        where
+          by_among : (b : Bool) → is_among ids k ≡ b → relocated_at (back_from r) ids k (relocated_at r ids k (node_of page k)) ≡ node_of page k
+          by_among true among = relocated-among (back_from r) ids k _ among ∙ ap (option_map (relocated (back_from r))) (relocated-among r ids k (node_of page k) among) ∙ goes_back k among
+          by_among false apart = relocated-apart (back_from r) ids k _ apart ∙ relocated-apart r ids k (node_of page k) apart
 
 -- the children of the new parent without the moved node are those on the page without the moved tree
 pub length-others : (page : Contents) → IsValid page → (id parent : ℕ) → has_id page parent ≡ true → occurrences (tree_of page id) parent ≡ 0 → length (children_without page parent id) ≡ child_count (page_without page id) parent
@@ -415,45 +431,50 @@ length-others page valid id parent there apart =
     by_place None = refl
     by_place (Some p) = ap (λ (ids : List ℕ). length ids) (sym (roots-taken_out p.below id))
 
--- a planned move, by the place of the node and of its parents
-module _ (state : PageState) (nodes : List Node) (first : Option ℕ) (r : Relocation) (siblings children ids : List ℕ) (kept : IsKept nodes first state.contents) where
-  -- the old parent is one of the nodes
-  pub planned-from : (edit : Edit) → IsPlanned (MoveNodes r siblings children ids) edit state → IsSome (node_with nodes r.from)
-  planned-from (Move id parent at) planned =
-      let page = state.contents in
-      let placed = placed_below page id r.from planned.plan_is.place_is.from_is in
+-- a planned move
+module _ (nodes : NodesState) (frame : Frame) (counted : IsCounted nodes frame.root frame.boxes (state_of nodes frame).contents) (r : Relocation) (siblings children ids : List ℕ) where
+  abbrev page' : Contents
+  page' = (state_of nodes frame).contents
+
+  -- each id stands among those of the moved tree once
+  pub ids_once : (edit : Edit) → IsPlanned (MoveNodes r siblings children ids) edit (state_of nodes frame) → (k : ℕ) → times_in k ids ≤ 1
+  ids_once (Move id parent at) planned k =
+      omega (arith, ap (times_in k) planned.plan_is.ids_are, times_in-ids_in (tree_of page' id) k, occurrences-parted page'.tree [] id k (counted.kept.valid.distinct id), counted.kept.valid.distinct k)
+  ids_once edit planned k = absurd planned.plan_is
+
+  pub planned-move : (edit : Edit) (new : NodesState) (had had' : List ℕ) → IsPlanned (MoveNodes r siblings children ids) edit (state_of nodes frame) →
+      ((k : ℕ) → node_with new.nodes k ≡ moved_at r siblings children ids k (node_with nodes.nodes k)) → length new.nodes ≡ length nodes.nodes → HasSameRoom nodes new →
+      had ≡ option_map_or (λ (n : Node). n.children) (node_with nodes.nodes r.from) siblings → had' ≡ option_map_or (λ (n : Node). n.children) (changed_at r.from (with_children siblings) r.parent (node_with nodes.nodes r.parent)) children →
+      Carries new frame (Moved (back_from r) had' had ids) (state_of nodes frame) edit
+  planned-move (Move id parent at) new had had' planned looked_up count same_room had_is had'_is =
+      let page = page' in
+      let valid = counted.kept.valid in
+      let plan = planned.plan_is in
+      let placed = placed_below page id r.from plan.place_is.from_is in
+      let q = placed.place in
       let may = may_move page id parent at planned.faultless in
-      let above = old_parent page kept.valid id parent at placed.place placed.found may in
-      let from_there : has_id page r.from ≡ true = ap (has_id page) (sym placed.parent_is ∙ ap parent_id above.above_is) ∙ ap is_some above.found in
-      subst (λ (o : Option Node). is_some o ≡ true) (sym (kept.looked_up r.from)) (is_some-node_at (placed_of page r.from) ∙ from_there)
-  planned-from edit planned = absurd planned.plan_is
-
-  module _ (i : ℕ) (n : Node) (is : slice_get nodes i ≡ Some n) (same : n.id ≡ r.from) where
-    -- and so is the new one
-    pub planned-to : (edit : Edit) → IsPlanned (MoveNodes r siblings children ids) edit state → IsSome (node_with (set nodes i (record n { children = siblings })) r.parent)
-    planned-to (Move id parent at) planned =
-        let page = state.contents in
-        let may = may_move page id parent at planned.faultless in
-        let there : has_id page r.parent ≡ true = ap (has_id page) planned.plan_is.place_is.parent_is ∙ may.parent_there in
-        let there' : is_some (node_with nodes r.parent) ≡ true = ap is_some (kept.looked_up r.parent) ∙ is_some-node_at (placed_of page r.parent) ∙ there in
-        subst (λ (o : Option Node). is_some o ≡ true) (sym (node_with-replaced nodes 0 i r.parent n _ kept.rising is refl)) (either (n.id == r.parent) (node_with nodes r.parent) there')
-      where
-        either : (b : Bool) (o : Option Node) → is_some o ≡ true → is_some (if b then Some (record n { children = siblings }) else o) ≡ true
-        either true o there = refl
-        either false o there = there
-    planned-to edit planned = absurd planned.plan_is
-
-    pub planned-moved : (edit : Edit) (j : ℕ) (m : Node) → IsPlanned (MoveNodes r siblings children ids) edit state → slice_get (set nodes i (record n { children = siblings })) j ≡ Some m → m.id ≡ r.parent →
-        MeansEdited (map (relocated_among r ids) (set (set nodes i (record n { children = siblings })) j (record m { children = children }))) first state.contents.viewport state.contents.next state.contents edit
-    planned-moved (Move id parent at) j m planned is' same' =
-        let page = state.contents in
-        let plan = planned.plan_is in
-        let placed = placed_below page id r.from plan.place_is.from_is in
-        let q = placed.place in
-        let may = may_move page id parent at planned.faultless in
-        let found_from : node_of page r.from ≡ Some n = sym (kept.looked_up r.from) ∙ ap (node_with nodes) (sym same) ∙ node_with-slice nodes 0 i n kept.rising is in
-        let siblings_are : siblings ≡ ids_without id n.children = plan.siblings_are ∙ ap (λ o. option_map_or (λ (x : Node). ids_without id x.children) o []) found_from in
-        let moved_is : moved page id parent at ≡ put_below parent at q.label q.below (taken_out id page.tree) = ap (λ o. option_map_or (λ p. put_below parent at p.label p.below (taken_out id page.tree)) o page.tree) placed.found in
-        means_edited _ first page (Move id parent at)
-        (rw moved_is (kept-moved page kept.valid id parent at q placed.found may r plan.place_is ids plan.ids_are.ids_are first nodes i n j m siblings children kept is same siblings_are is' (same' ∙ plan.place_is.parent_is) plan.children_are))
-    planned-moved edit j m planned is' same' = absurd planned.plan_is
+      let after = new_page page valid id parent at q placed.found may in
+      let moved_is : moved page id parent at ≡ after.tree = ap (λ o. option_map_or (λ p. put_below parent at p.label p.below (taken_out id page.tree)) o page.tree) placed.found in
+      let edited_is : edited page (Move id parent at) ≡ after = ap (λ (tree : Forest). record page { tree = tree }) moved_is in
+      let kept = kept-moved page valid id parent at q placed.found may r plan.place_is ids plan.ids_are frame.root (node_with nodes.nodes) (node_with new.nodes) siblings children counted.kept plan.siblings_are plan.children_are looked_up in
+      let back = moved-back page valid id parent at q placed.found may r plan.place_is ids plan.ids_are frame.root (node_with nodes.nodes) (node_with new.nodes) siblings children counted.kept plan.siblings_are plan.children_are looked_up had had' had_is had'_is in
+      let count_is : node_count after.tree ≡ node_count page.tree = nodes_stay page valid id parent at q placed.found may in
+      carries new frame (Moved (back_from r) had' had ids) (state_of nodes frame) (Move id parent at)
+      (rw edited_is kept)
+      (rw edited_is (record {
+        count = omega (arith, count, counted.count, count_is);
+        boxes = counted.boxes_are ∙ sym (boxes_stay page valid id parent at q placed.found may);
+        viewport = refl;
+        next = refl;
+        fits = omega (arith, count, counted.fits, same_room.room);
+        placed = λ k positive below. omega (arith, counted.placed k positive below, same_room.ids);
+      }))
+      (rw edited_is (record {
+        looked_up = λ k. sym (ap (moved_at (back_from r) had' had ids k) (sym (kept.looked_up k)) ∙ back k);
+        count = sym count_is;
+        can_go_back = ids_once (Move id parent at) planned;
+        fits = omega (arith, counted.fits, counted.count, same_room.room);
+        next = omega arith;
+      }))
+      refl
+  planned-move edit new had had' planned looked_up count same_room had_is had'_is = absurd planned.plan_is

@@ -1,6 +1,6 @@
 -- A page with another label for one node, and with another viewport: what no fault means, that it is valid, and that it is
 -- what the nodes then mean.
-use Rattle.std.proofs.Common.{◌≡◌, ◌≢◌, ℕ, suc, ◌+◌, ◌==◌, ℤ, List, [], ◌∷◌, length, map, set, slice_get, Option, Some, None, IsSome, is_some, true, false, Bool, not, if◌then◌else◌, refl, sym, ap, ◌∙◌, inl, inr, arith}
+use Rattle.std.proofs.Common.{◌≡◌, ◌≢◌, ℕ, suc, ◌+◌, ◌==◌, ℤ, List, [], ◌∷◌, length, map, Option, Some, None, true, false, Bool, if◌then◌else◌, refl, sym, ap, ◌∙◌, inl, inr, arith}
 use Rattle.std.specs.Prelude.{◌≤◌, ◌&&◌}
 use Rattle.std.specs.Option.{option_or, option_map, option_map_or}
 use Rattle.std.proofs.lemmas.Bool.{cases_eq}
@@ -11,23 +11,24 @@ use Rattle.box_tree.specs.declared.piece.Piece.{Piece}
 use Rattle.box_tree.specs.declared.node.Node.{Node}
 use Rattle.box_tree.specs.declared.edit.Edit.{Edit}
 use Rattle.box_tree.specs.declared.edit.Edit.TheVariants.{Place, Resize}
-use Rattle.box_tree.specs.declared.plan.Placement.{Placement}
-use Rattle.box_tree.specs.declared.plan.Plan.TheVariants.{PlaceNode, ResizeViewport}
+use Rattle.box_tree.specs.declared.plan.Frame.{Frame}
+use Rattle.box_tree.specs.declared.plan.Plan.TheVariants.{ResizeViewport}
+use Rattle.box_tree.specs.declared.plan.Taken.TheVariants.{Resized}
 use Rattle.box_tree.specs.Forest.{Label, Forest, End, Grow, roots_of, node_count, height_of, occurrences, Placed, placed_in, EachNode}
-use Rattle.box_tree.specs.Contents.{Contents, node_at, node_of, placed_of, ancestors_of, has_id, parent_id, IsMaxInRange, IsScrolled, IsGiven, IsSuited, IsValid}
+use Rattle.box_tree.specs.Contents.{Contents, node_at, node_of, placed_of, has_id, parent_id, IsMaxInRange, IsScrolled, IsGiven, IsSuited, IsValid}
+use Rattle.box_tree.specs.Counted.{IsCounted}
 use Rattle.box_tree.specs.declared.kind.Kind.{Kind}
 use Rattle.box_tree.specs.Suits.{has_no_parent, kind_suits, box_count_suits, takes_place}
 use Rattle.box_tree.specs.Totals.{box_count}
-use Rattle.box_tree.specs.Edited.{kind_may_be_placed, relabelled, clamped_to, laid_out, resized, first_fault, faults_of}
-use Rattle.box_tree.specs.Kept.{node_with, label_of, with_label, IsKept}
-use Rattle.box_tree.specs.PageState.{PageState}
+use Rattle.box_tree.specs.Edited.{IsPlaceInRange, kind_may_be_placed, relabelled, clamped_to, laid_out, resized, first_fault, faults_of}
+use Rattle.box_tree.specs.Kept.{with_label, IsKept}
+use Rattle.box_tree.specs.Nodes.{NodesState, changed_at}
 use Rattle.box_tree.specs.Planned.{IsPlanned}
 use Rattle.box_tree.proofs.ForestLemmas.{if_map}
-use Rattle.box_tree.proofs.KeptLemmas.{node_with-slice, node_with-replaced, rising-set}
+use Rattle.box_tree.proofs.KeptLemmas.{changed-here, changed-other}
 use Rattle.box_tree.proofs.AddLemmas.{none_holds, both_true, not_false}
-use Rattle.box_tree.proofs.PlacedLemmas.{AreAtPlaces, page-at_places, seen_at}
-use Rattle.box_tree.proofs.PlanLemmas.{MeansEdited, means_edited, id-placed_in, is_some-node_at}
-use Rattle.std.proofs.Math.ListN.{length-set}
+use Rattle.box_tree.proofs.PlacedLemmas.{AreAtPlaces, page-at_places, id-node_of}
+use Rattle.box_tree.proofs.PlanLemmas.{state_of, Carries, carries}
 
 -- trees with another label for one node, which keeps its id
 module _ (id : ℕ) (change : Label → Label) (keeps : (n : Label) → (change n).id ≡ n.id) where
@@ -156,36 +157,35 @@ module _ (id : ℕ) (change : Label → Label) (keeps : (n : Label) → (change 
         by_place None = refl
         by_place (Some p) = ap Some (node_at-new p)
 
-    -- the nodes of the page with that one changed
-    pub kept-relabelled : (first : Option ℕ) (nodes : List Node) (i : ℕ) (n : Node) → IsKept nodes first page → slice_get nodes i ≡ Some n → n.id ≡ id → IsKept (set nodes i (with_label change n)) first new_page
-    kept-relabelled first nodes i n kept is same = record {
+    -- nodes that are looked up as those of the page, with that one changed
+    pub kept-relabelled : (first : Option ℕ) (look look' : ℕ → Option Node) (make : Node → Node) → IsKept look first page →
+        option_map make (node_of page id) ≡ option_map (with_label change) (node_of page id) →
+        ((k : ℕ) → look' k ≡ changed_at id make k (look k)) → IsKept look' first new_page
+    kept-relabelled first look look' make kept makes known = record {
       valid = valid-relabelled;
-      looked_up = λ k. node_with-replaced nodes 0 i k n _ kept.rising is (keeps (label_of n)) ∙ known k ∙ sym (node_of-relabelled k);
-      rising = rising-set nodes 0 i n _ kept.rising is (keeps (label_of n));
+      looked_up = λ k. known k ∙ ap (changed_at id make k) (kept.looked_up k) ∙ relabelled_at k ∙ sym (node_of-relabelled k);
       root = kept.root ∙ sym (roots-relabelled page.tree);
-      count = length-set nodes i (with_label change n) ∙ kept.count ∙ sym (node_count-relabelled page.tree);
     }
       where
-        changed : (m : Node) → m.id ≡ id → with_label new m ≡ with_label change m
-        changed m here = let is_changed : (m.id == id) ≡ true = grind (arith, nat_tests) in ap (λ b. with_label (λ l. if b then change l else l) m) is_changed
+        new-here : (m : Node) → m.id ≡ id → with_label change m ≡ with_label new m
+        new-here m here = let is_changed : (m.id == id) ≡ true = grind (arith, nat_tests) in ap (λ b. with_label (λ l. if b then change l else l) m) (sym is_changed)
 
-        unchanged : (m : Node) → m.id ≢ id → with_label new m ≡ m
-        unchanged m other = let is_other : (m.id == id) ≡ false = grind (arith, nat_tests) in ap (λ b. with_label (λ l. if b then change l else l) m) is_other
+        new-other : (m : Node) → m.id ≢ id → m ≡ with_label new m
+        new-other m other = let is_other : (m.id == id) ≡ false = grind (arith, nat_tests) in ap (λ b. with_label (λ l. if b then change l else l) m) (sym is_other)
 
-        known : (k : ℕ) → (if n.id == k then Some (with_label change n) else node_with nodes k) ≡ option_map (with_label new) (node_of page k)
-        known k = elim (cases_eq n.id k) [
-          | inl here ↦
-              let found : node_of page k ≡ Some n = sym (kept.looked_up k) ∙ ap (node_with nodes) (sym here) ∙ node_with-slice nodes 0 i n kept.rising is in
-              let at_node : (if n.id == k then Some (with_label change n) else node_with nodes k) ≡ Some (with_label change n) = grind (arith, nat_tests) in
-              at_node ∙ sym (ap (option_map (with_label new)) found ∙ ap Some (changed n same))
-          | inr apart ↦
-              let at_other : (if n.id == k then Some (with_label change n) else node_with nodes k) ≡ node_with nodes k = grind (arith, nat_tests) in
-              at_other ∙ kept.looked_up k ∙ sym (others apart (placed_of page k) refl)
+        relabelled_at : (k : ℕ) → changed_at id make k (node_of page k) ≡ option_map (with_label new) (node_of page k)
+        relabelled_at k = elim (cases_eq id k) [
+          | inl here ↦ changed-here id make k (node_of page k) here ∙ ap (λ i. option_map make (node_of page i)) (sym here) ∙ makes ∙ here_seen (node_of page id) refl ∙ ap (λ i. option_map (with_label new) (node_of page i)) here
+          | inr apart ↦ changed-other id make k (node_of page k) apart ∙ other_seen apart (node_of page k) refl
         ]
           where
-            others : n.id ≢ k → (o : Option Placed) → placed_of page k ≡ o → option_map (with_label new) (option_map node_at o) ≡ option_map node_at o
-            others apart None found = refl
-            others apart (Some p) found = ap Some (unchanged (node_at p) (λ here. apart (same ∙ sym here ∙ id-placed_in page.tree [] k p found)))
+            here_seen : (o : Option Node) → node_of page id ≡ o → option_map (with_label change) o ≡ option_map (with_label new) o
+            here_seen None seen = refl
+            here_seen (Some m) seen = ap Some (new-here m (id-node_of page id m seen))
+
+            other_seen : id ≢ k → (o : Option Node) → node_of page k ≡ o → o ≡ option_map (with_label new) o
+            other_seen apart None seen = refl
+            other_seen apart (Some m) seen = ap Some (new-other m (λ same. apart (sym same ∙ id-node_of page k m seen)))
 
 -- a clamped scroll is between 0 and the greatest one
 pub scrolled-clamped : (max scroll : Spot) → IsMaxInRange max → IsScrolled (clamped_to max scroll) max
@@ -212,47 +212,34 @@ may_place page id anchor boxes max none =
       total = grind (arith, nat_tests, tests.1.1.0);
     }
 
--- what is laid out keeps its id
-keeps-laid_out : (anchor : Spot) (boxes : List Piece) (max : Spot) (n : Label) → (laid_out anchor boxes max n).id ≡ n.id
-keeps-laid_out anchor boxes max n = refl
+-- a label that is laid out suits where one did that may be placed
+suited-laid_out : (page : Contents) (id : ℕ) (anchor : Spot) (boxes : List Piece) (max : Spot) → IsPlaceInRange id anchor boxes max → MayPlace page id anchor boxes max → (q : Placed) → placed_of page id ≡ Some q → IsSuited q.above q.label → IsSuited q.above (laid_out anchor boxes max q.label)
+suited-laid_out page id anchor boxes max range may q found suited = record {
+  kind = suited.kind;
+  boxes = (both_true _ _ (sym (ap (λ o. option_map_or (λ p. takes_place p.label.kind && box_count_suits (has_no_parent p.above) p.label.kind (length boxes)) o false) found) ∙ may.suits)).1;
+  style = suited.style;
+  style_in_range = suited.style_in_range;
+  box_count = may.few;
+  in_range = range.boxes_in_range;
+  anchor = range.anchor_in_range;
+  scroll = scrolled-clamped max q.label.scroll range.max_in_range;
+}
 
--- a planned place
-module _ (state : PageState) (nodes : List Node) (first : Option ℕ) (p : Placement) (own : List Piece) (kept : IsKept nodes first state.contents) where
-  -- the node is one of the nodes
-  pub planned-place_there : (edit : Edit) → IsPlanned (PlaceNode p own) edit state → IsSome (node_with nodes p.id)
-  planned-place_there (Place id anchor boxes max) planned =
-      let page = state.contents in
-      let there = may_place page id anchor boxes max planned.faultless in
-      ap is_some (ap (node_with nodes) planned.plan_is.id_is ∙ kept.looked_up id) ∙ is_some-node_at (placed_of page id) ∙ there.there
-  planned-place_there edit planned = absurd planned.plan_is
-
-  pub planned-place : (edit : Edit) (i : ℕ) (n : Node) → IsPlanned (PlaceNode p own) edit state → slice_get nodes i ≡ Some n → n.id ≡ p.id →
-      MeansEdited (set nodes i (with_label (laid_out p.anchor own p.max) n)) first state.contents.viewport state.contents.next state.contents edit
-  planned-place (Place id anchor boxes max) i n planned is same =
-      let page = state.contents in
-      let may = may_place page id anchor boxes max planned.faultless in
-      let plan = planned.plan_is in
-      let suits : (q : Placed) → placed_of page id ≡ Some q → IsSuited q.above q.label → IsSuited q.above (laid_out anchor boxes max q.label) = λ q found suited. record {
-        kind = suited.kind;
-        boxes = (both_true _ _ (sym (ap (λ o. option_map_or (λ p. takes_place p.label.kind && box_count_suits (has_no_parent p.above) p.label.kind (length boxes)) o false) found) ∙ may.suits)).1;
-        style = suited.style;
-        style_in_range = suited.style_in_range;
-        box_count = may.few;
-        in_range = planned.in_range.boxes_in_range;
-        anchor = planned.in_range.anchor_in_range;
-        scroll = scrolled-clamped max q.label.scroll planned.in_range.max_in_range;
-      } in
-      rw (plan.anchor_is, plan.boxes_are, plan.max_is) (means_edited _ first page (Place id anchor boxes max)
-      (kept-relabelled id (laid_out anchor boxes max) (keeps-laid_out anchor boxes max) page kept.valid (λ n. refl) may.total suits first nodes i n kept is (same ∙ plan.id_is)))
-  planned-place edit i n planned is same = absurd planned.plan_is
+pub kept-placed : (page : Contents) (id : ℕ) (anchor : Spot) (boxes : List Piece) (max : Spot) (first : Option ℕ) (look look' : ℕ → Option Node) (make : Node → Node) → IsPlaceInRange id anchor boxes max → MayPlace page id anchor boxes max → IsKept look first page →
+    option_map make (node_of page id) ≡ option_map (with_label (laid_out anchor boxes max)) (node_of page id) → ((k : ℕ) → look' k ≡ changed_at id make k (look k)) →
+    IsKept look' first (record page { tree = relabelled id (laid_out anchor boxes max) page.tree })
+kept-placed page id anchor boxes max first look look' make range may kept makes known =
+    kept-relabelled id (laid_out anchor boxes max) (λ n. refl) page kept.valid (λ n. refl) may.total (suited-laid_out page id anchor boxes max range may) first look look' make kept makes known
 
 -- a planned resize: the nodes stay
-pub planned-resize : (state : PageState) (nodes : List Node) (first : Option ℕ) (w h : ℤ) (max : Spot) (edit : Edit) → IsKept nodes first state.contents → IsPlanned (ResizeViewport w h max) edit state → MeansEdited nodes first (resized w h max state.contents.viewport) state.contents.next state.contents edit
-planned-resize state nodes first w' h' max' (Resize w h max) kept planned =
-    let page = state.contents in
+pub planned-resize : (nodes : NodesState) (frame frame' : Frame) (w h : ℤ) (max : Spot) (edit : Edit) → IsCounted nodes frame.root frame.boxes (state_of nodes frame).contents → IsPlanned (ResizeViewport w h max) edit (state_of nodes frame) →
+    frame'.boxes ≡ frame.boxes → frame'.root ≡ frame.root → frame'.viewport ≡ resized w h max frame.viewport → frame'.next ≡ frame.next → Carries nodes frame' Resized (state_of nodes frame) edit
+planned-resize nodes frame frame' w' h' max' (Resize w h max) counted planned boxes_is root_is viewport_is next_is =
+    let page = (state_of nodes frame).contents in
     let plan = planned.plan_is in
     let range = planned.in_range in
     let after : Contents = record page { viewport = resized w h max page.viewport } in
+    let kept = counted.kept in
     let valid : IsValid after = record {
       one_tree = kept.valid.one_tree;
       distinct = kept.valid.distinct;
@@ -264,6 +251,22 @@ planned-resize state nodes first w' h' max' (Resize w h max) kept planned =
       next = kept.valid.next;
       viewport = record { width = range.width; height = range.height; scroll = scrolled-clamped max page.viewport.scroll range.max_in_range };
     } in
-    rw (plan.width_is, plan.height_is, plan.max_is) (means_edited nodes first page (Resize w h max)
-    (record { valid = valid; looked_up = kept.looked_up; rising = kept.rising; root = kept.root; count = kept.count }))
-planned-resize state nodes first w' h' max' edit kept planned = absurd planned.plan_is
+    carries nodes frame' Resized (state_of nodes frame) (Resize w h max)
+    (rw root_is (record { valid = valid; looked_up = kept.looked_up; root = kept.root }))
+    (record {
+      count = counted.count;
+      boxes = boxes_is ∙ counted.boxes_are;
+      viewport = viewport_is ∙ ap (λ x. resized x h' max' page.viewport) plan.width_is ∙ ap (λ x. resized w x max' page.viewport) plan.height_is ∙ ap (λ x. resized w h x page.viewport) plan.max_is;
+      next = next_is;
+      fits = counted.fits;
+      placed = counted.placed;
+    })
+    (record {
+      looked_up = λ k. refl;
+      count = refl;
+      can_go_back = tt;
+      fits = omega (arith, counted.fits, counted.count);
+      next = omega arith;
+    })
+    refl
+planned-resize nodes frame frame' w' h' max' edit counted planned boxes_is root_is viewport_is next_is = absurd planned.plan_is

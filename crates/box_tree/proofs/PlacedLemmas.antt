@@ -1,7 +1,8 @@
 -- In a valid page each node is found at its place, and a walk over the trees meets each node there.
-use Rattle.std.proofs.Common.{◌≡◌, ◌≢◌, ℕ, zero, suc, ◌+◌, ◌<◌, ◌≤◌, ◌==◌, List, [], ◌∷◌, length, get_or, Option, Some, None, if◌then◌else◌, true, false, Bool, refl, sym, ap, add-one, ◌∙◌, subst, arith}
+use Rattle.std.proofs.Common.{◌≡◌, ◌≢◌, ℕ, zero, suc, ◌+◌, ◌<◌, ◌≤◌, ◌==◌, List, [], ◌∷◌, length, get_or, Option, Some, None, if◌then◌else◌, true, false, Bool, refl, sym, ap, add-one, ◌∙◌, subst, inl, inr, arith}
 use Rattle.std.specs.Option.{option_or, option_map}
 use Rattle.box_tree.specs.declared.node.Node.{Node}
+use Rattle.std.proofs.lemmas.Bool.{cases_eq}
 use Rattle.std.proofs.lemmas.Bool.Decides.{nat_tests}
 use Rattle.box_tree.specs.Forest.{Label, Forest, End, Grow, roots_of, height_of, occurrences, Placed, placed_in}
 use Rattle.box_tree.specs.Contents.{Contents, node_at, node_of, placed_of, IsValid}
@@ -120,6 +121,24 @@ seen_at page id node seen = by_place (placed_of page id) refl seen
     by_place : (place : Option Placed) → placed_of page id ≡ place → option_map node_at place ≡ Some node → IsSeenAt page id node
     by_place None is seen' = absurd cc
     by_place (Some p) is seen' = record { place = p; found = is; node_is = cc }
+
+-- the place of an id is that of a node with the id
+pub id-placed_in : (f : Forest) (above : List Label) (id : ℕ) (p : Placed) → placed_in above f id ≡ Some p → p.label.id ≡ id
+id-placed_in End above id p is = absurd cc
+id-placed_in (Grow n below others) above id p is = elim (cases_eq n.id id) [
+  | inl here ↦ grind (arith, nat_tests)
+  | inr other ↦ from_parts (placed_in (n ∷ above) below id) (λ found. id-placed_in below (n ∷ above) id p found) (λ found. id-placed_in others above id p found) (grind (arith, nat_tests))
+]
+  where
+    from_parts : (first : Option Placed) → (first ≡ Some p → p.label.id ≡ id) → (placed_in above others id ≡ Some p → p.label.id ≡ id) → option_or first (placed_in above others id) ≡ Some p → p.label.id ≡ id
+    from_parts None from_below from_others found = from_others found
+    from_parts (Some q) from_below from_others found = from_below found
+
+-- and so is a node that a reader sees
+pub id-node_of : (page : Contents) (id : ℕ) (n : Node) → node_of page id ≡ Some n → n.id ≡ id
+id-node_of page id n seen =
+    let at = seen_at page id n seen in
+    sym (ap (λ (m : Node). m.id) at.node_is) ∙ id-placed_in page.tree [] id at.place at.found
 
 -- a child of a node that was found: it is found too, below that node, and its tree comes before those of the children after it
 pub record IsChildAt (page : Contents) (p : Placed) (k child : ℕ) : Type 0 where

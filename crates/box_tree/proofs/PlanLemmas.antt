@@ -1,48 +1,69 @@
--- A planned edit, carried out on the kept nodes, makes the edited page of them.
-use Rattle.std.proofs.Common.{◌≡◌, ◌≢◌, ◌⊎◌, ℕ, ◌+◌, ◌==◌, List, [], ◌∷◌, ◌++◌, length, set, slice_get, Option, Some, None, IsSome, is_some, true, if◌then◌else◌, refl, sym, ap, ◌∙◌, subst, inl, inr, arith}
+-- What it means that an edit was carried out on nodes with a frame, and that a planned add does so.
+use Rattle.std.proofs.Common.{◌≡◌, ◌≢◌, ◌⊎◌, ℕ, ◌+◌, ◌-◌, ◌^◌, ◌<◌, ◌≤◌, ◌==◌, List, [], ◌∷◌, length, Option, Some, None, is_some, Bool, true, false, if◌then◌else◌, refl, sym, ap, ◌∙◌, subst, inl, inr, arith}
 use mathlib.Core.Bool.{false≢true}
-use Rattle.std.specs.Option.{option_or, option_map, option_map_or}
-use Rattle.std.specs.List.{insert}
+use Rattle.std.specs.Option.{option_map, option_map_or}
 use Rattle.std.proofs.lemmas.Bool.{cases_eq}
 use Rattle.std.proofs.lemmas.Bool.Decides.{nat_tests}
 use Rattle.computed_style.specs.declared.style.Style.{Style}
 use Rattle.box_tree.specs.declared.kind.Kind.{Kind}
 use Rattle.box_tree.specs.declared.piece.Piece.{Piece}
 use Rattle.box_tree.specs.declared.node.Node.{Node}
-use Rattle.box_tree.specs.declared.viewport.Viewport.{Viewport}
 use Rattle.box_tree.specs.declared.edit.Edit.{Edit}
 use Rattle.box_tree.specs.declared.edit.Edit.TheVariants.{Add}
+use Rattle.box_tree.specs.declared.edit.Done.TheVariants.{Node as NodeAdded}
+use Rattle.box_tree.specs.declared.plan.Frame.{Frame}
 use Rattle.box_tree.specs.declared.plan.Plan.TheVariants.{AddNode}
-use Rattle.box_tree.specs.Forest.{Label, Forest, End, Grow, roots_of, Placed, placed_in}
+use Rattle.box_tree.specs.declared.plan.Taken.{Taken}
+use Rattle.box_tree.specs.declared.plan.Taken.TheVariants.{Added}
 use Rattle.box_tree.specs.Contents.{Contents, node_at, node_of, placed_of, origin, new_label, has_id, parent_id, IsValid}
-use Rattle.box_tree.specs.Edited.{edited, planted, put_below, ancestors_below, child_count}
-use Rattle.box_tree.specs.Kept.{node_with, page_of, IsKept}
+use Rattle.box_tree.specs.Counted.{IsCounted}
+use Rattle.box_tree.specs.Edited.{edited, answer_of, planted, put_below, ancestors_below, child_count}
+use Rattle.box_tree.specs.Forest.{Label, Forest, End, Grow, roots_of, node_count, Placed}
+use Rattle.box_tree.specs.Kept.{node_with, with_children, page_of, IsKept}
+use Rattle.box_tree.specs.Nodes.{NodesState, changed_at, ChangesAt}
 use Rattle.box_tree.specs.PageState.{PageState}
 use Rattle.box_tree.specs.Planned.{node_added, IsPlanned}
-use Rattle.box_tree.proofs.ForestLemmas.{single}
-use Rattle.box_tree.proofs.KeptLemmas.{node_with-slice}
-use Rattle.box_tree.proofs.KeptPages.{page_of-kept, kept-page_of}
-use Rattle.box_tree.proofs.AddLemmas.{may_add, ancestors_below-none, kept-root, kept-below}
+use Rattle.box_tree.specs.Taken.{IsTaken, answer_by}
+use Rattle.box_tree.specs.Totals.{box_count}
+use Rattle.box_tree.proofs.AddLemmas.{may_add, once_there, ancestors_below-none, kept-root, kept-below}
+use Rattle.box_tree.proofs.ForestLemmas.{single, placed_in-absent, node_in-absent, node_count-put_below}
+use Rattle.box_tree.proofs.KeptLemmas.{changed-none, children-back}
+use Rattle.box_tree.proofs.KeptPages.{Means, means}
+use Rattle.box_tree.proofs.PlacedLemmas.{id-placed_in}
+use Rattle.box_tree.proofs.PutLemmas.{given-absent}
+use Rattle.box_tree.proofs.TotalLemmas.{total-put_below}
 
--- the nodes are kept, and they mean the edited page
-pub record MeansEdited (nodes : List Node) (first : Option ℕ) (viewport : Viewport) (next : ℕ) (page : Contents) (edit : Edit) : Type 0 where
-  pub kept : IsKept nodes first (page_of nodes first viewport next)
-  pub edited_is : page_of nodes first viewport next ≡ edited page edit
+-- the page that nodes with a frame are
+abbrev pub state_of : NodesState → Frame → PageState
+state_of nodes frame = record { contents = page_of (node_with nodes.nodes) frame.root frame.viewport frame.next; room = nodes.room; ids = nodes.ids }
 
-pub means_edited : (nodes : List Node) (first : Option ℕ) (page : Contents) (edit : Edit) → IsKept nodes first (edited page edit) → MeansEdited nodes first (edited page edit).viewport (edited page edit).next page edit
-means_edited nodes first page edit kept = record { kept = kept-page_of nodes first (edited page edit) kept; edited_is = page_of-kept nodes first (edited page edit) kept }
+-- the nodes and the frame mean the edited page, and what was taken leads back
+pub record Carries (new : NodesState) (frame : Frame) (taken : Taken) (state : PageState) (edit : Edit) : Type 0 where
+  pub means : Means new frame (edited state.contents edit)
+  pub taken_is : IsTaken taken state.contents (edited state.contents edit) new.room
+  pub answer_is : answer_by taken ≡ answer_of state.contents edit
 
--- the place of an id is that of a node with the id
-pub id-placed_in : (f : Forest) (above : List Label) (id : ℕ) (p : Placed) → placed_in above f id ≡ Some p → p.label.id ≡ id
-id-placed_in End above id p is = absurd cc
-id-placed_in (Grow n below others) above id p is = elim (cases_eq n.id id) [
-  | inl here ↦ grind (arith, nat_tests)
-  | inr other ↦ from_parts (placed_in (n ∷ above) below id) (λ found. id-placed_in below (n ∷ above) id p found) (λ found. id-placed_in others above id p found) (grind (arith, nat_tests))
-]
-  where
-    from_parts : (first : Option Placed) → (first ≡ Some p → p.label.id ≡ id) → (placed_in above others id ≡ Some p → p.label.id ≡ id) → option_or first (placed_in above others id) ≡ Some p → p.label.id ≡ id
-    from_parts None from_below from_others found = from_others found
-    from_parts (Some q) from_below from_others found = from_below found
+-- the same of what was taken, where the nodes and the frame are those of a page
+pub taken_as : (new : NodesState) (frame : Frame) (taken : Taken) (state page : PageState) (edit : Edit) → state ≡ page → Carries new frame taken state edit → IsTaken taken page.contents (page_of (node_with new.nodes) frame.root frame.viewport frame.next) new.room
+taken_as new frame taken state page edit is carried =
+    subst (λ (s : PageState). IsTaken taken s.contents (page_of (node_with new.nodes) frame.root frame.viewport frame.next) new.room) is
+    (subst (λ (after : Contents). IsTaken taken state.contents after new.room) (sym carried.means.is) carried.taken_is)
+
+-- what an exchange leaves of the numbers of a page
+pub record Leaves (new : NodesState) (frame : Frame) (after : Contents) : Type 0 where
+  pub count : length new.nodes ≡ node_count after.tree
+  pub boxes : frame.boxes ≡ box_count after.tree
+  pub viewport : frame.viewport ≡ after.viewport
+  pub next : frame.next ≡ after.next
+  pub fits : length new.nodes ≤ new.room
+  pub placed : (id : ℕ) → 0 < id → id < after.next → id < new.ids
+
+pub carries : (new : NodesState) (frame : Frame) (taken : Taken) (state : PageState) (edit : Edit) → IsKept (node_with new.nodes) frame.root (edited state.contents edit) → Leaves new frame (edited state.contents edit) → IsTaken taken state.contents (edited state.contents edit) new.room → answer_by taken ≡ answer_of state.contents edit → Carries new frame taken state edit
+carries new frame taken state edit kept leaves taken_is answer_is = record {
+  means = means new frame (edited state.contents edit) (record { kept = kept; count = leaves.count; boxes_are = leaves.boxes; fits = leaves.fits; placed = leaves.placed }) leaves.viewport leaves.next;
+  taken_is = taken_is;
+  answer_is = answer_is;
+}
 
 -- the parent that a new node names
 pub parent-node_added : (page : Contents) (parent : ℕ) (kind : Kind) (style : Style) (boxes : List Piece) → IsValid page → (parent ≡ 0) ⊎ (has_id page parent ≡ true) → (node_added page parent kind style boxes).parent ≡ parent
@@ -59,46 +80,10 @@ planted-root parent at n tree none_named = grind (arith, nat_tests)
 pub planted-below : (parent at : ℕ) (n : Label) (tree : Forest) → parent ≢ 0 → planted parent at n End tree ≡ put_below parent at n End tree
 planted-below parent at n tree other = grind (arith, nat_tests)
 
--- a planned add of a root
-pub planned-root : (state : PageState) (nodes : List Node) (first : Option ℕ) (edit : Edit) (node : Node) (siblings : List ℕ) → IsKept nodes first state.contents → IsPlanned (AddNode node siblings) edit state → node.parent ≡ 0 → MeansEdited (nodes ++ node ∷ []) (Some node.id) state.contents.viewport (state.contents.next + 1) state.contents edit
-planned-root state nodes first (Add parent at kind boxes style) node siblings kept planned is_root =
-    let page = state.contents in
-    let may = may_add page parent at kind style boxes planned.faultless in
-    let none_named : parent ≡ 0 = sym (parent-node_added page parent kind style boxes kept.valid may.present) ∙ sym (ap (λ (n : Node). n.parent) planned.plan_is.node_is) ∙ is_root in
-    let tree_is = planted-root parent at (new_label page.next kind style boxes) page.tree none_named in
-    rw planned.plan_is.node_is (means_edited _ _ page (Add parent at kind boxes style)
-    (rw tree_is (kept-root page kept.valid parent at kind style boxes planned.in_range may none_named first nodes kept)))
-planned-root state nodes first edit node siblings kept planned is_root = absurd planned.plan_is
-
--- a planned add of a child
-pub planned-child : (state : PageState) (nodes : List Node) (first : Option ℕ) (edit : Edit) (node : Node) (siblings : List ℕ) (i : ℕ) (n : Node) → IsKept nodes first state.contents → IsPlanned (AddNode node siblings) edit state → node.parent ≢ 0 → slice_get nodes i ≡ Some n → n.id ≡ node.parent → MeansEdited (set nodes i (record n { children = siblings }) ++ node ∷ []) first state.contents.viewport (state.contents.next + 1) state.contents edit
-planned-child state nodes first (Add parent at kind boxes style) node siblings i n kept planned is_child is same =
-    let page = state.contents in
-    let may = may_add page parent at kind style boxes planned.faultless in
-    let parent_is : node.parent ≡ parent = ap (λ (m : Node). m.parent) planned.plan_is.node_is ∙ parent-node_added page parent kind style boxes kept.valid may.present in
-    let named : parent ≢ 0 = λ none_named. is_child (parent_is ∙ none_named) in
-    let there : has_id page parent ≡ true = elim may.present [ inl none_named ↦ absurd (named none_named) | inr there' ↦ there' ] in
-    let found : node_of page parent ≡ Some n = sym (kept.looked_up parent) ∙ ap (node_with nodes) (sym (same ∙ parent_is)) ∙ node_with-slice nodes 0 i n kept.rising is in
-    let siblings_are : siblings ≡ insert n.children at page.next = planned.plan_is.siblings_are ∙ ap (λ o. option_map_or (λ (m : Node). insert m.children at page.next) o []) found in
-    let tree_is = planted-below parent at (new_label page.next kind style boxes) page.tree named in
-    rw (siblings_are, planned.plan_is.node_is) (means_edited _ _ page (Add parent at kind boxes style)
-    (rw tree_is (kept-below page kept.valid parent at kind style boxes planned.in_range may there first nodes i n kept is (same ∙ parent_is))))
-planned-child state nodes first edit node siblings i n kept planned is_child is same = absurd planned.plan_is
-
 -- a reader sees a node where one is placed
 pub is_some-node_at : (o : Option Placed) → is_some (option_map node_at o) ≡ is_some o
 is_some-node_at None = refl
 is_some-node_at (Some p) = refl
-
--- the parent of a planned child is one of the nodes
-pub planned-parent : (state : PageState) (nodes : List Node) (first : Option ℕ) (edit : Edit) (node : Node) (siblings : List ℕ) → IsKept nodes first state.contents → IsPlanned (AddNode node siblings) edit state → node.parent ≢ 0 → IsSome (node_with nodes node.parent)
-planned-parent state nodes first (Add parent at kind boxes style) node siblings kept planned is_child =
-    let page = state.contents in
-    let may = may_add page parent at kind style boxes planned.faultless in
-    let parent_is : node.parent ≡ parent = ap (λ (m : Node). m.parent) planned.plan_is.node_is ∙ parent-node_added page parent kind style boxes kept.valid may.present in
-    let there : has_id page parent ≡ true = elim may.present [ inl none_named ↦ absurd (is_child (parent_is ∙ none_named)) | inr there' ↦ there' ] in
-    subst (λ (o : Option Node). is_some o ≡ true) (sym (kept.looked_up parent) ∙ ap (node_with nodes) (sym parent_is)) (is_some-node_at (placed_of page parent) ∙ there)
-planned-parent state nodes first edit node siblings kept planned is_child = absurd planned.plan_is
 
 -- what an add asks of its place, by the parent as a reader sees it
 module _ (page : Contents) (parent : ℕ) where
@@ -123,3 +108,131 @@ node_is-added page parent kind style boxes id depth children own declared valid 
     let parent_is = parent-node_added page parent kind style boxes valid present in
     let depth_is' : depth + 1 ≡ 1 + length (ancestors_below page parent) = omega (arith, length-ancestors_below page parent, depth_is) in
     rw (id_is, children_are, depth_is', own_is, declared_is) (ap (λ (k : ℕ). let made : Node = record { id = page.next; kind = kind; parent = k; children = []; depth = 1 + length (ancestors_below page parent); style = style; anchor = origin; boxes = boxes; scroll = origin; max = origin } in made) (sym parent_is))
+
+-- no node, no box
+pub no_boxes : (f : Forest) → node_count f ≡ 0 → box_count f ≡ 0
+no_boxes End none = refl
+no_boxes (Grow n below others) none = absurd (omega arith)
+
+-- no node has the id 0
+nowhere : (page : Contents) → IsValid page → has_id page 0 ≡ false
+nowhere page valid = ap is_some (placed_in-absent page.tree [] 0 (given-absent page.tree [] page.next 0 valid.given (inl refl)))
+
+-- an add makes the boxes of its node more
+pub record AddsBoxes (page after : Contents) (count : ℕ) : Type 0 where
+  pub total : count + box_count page.tree ≡ box_count after.tree
+  pub most : count + box_count page.tree ≤ 262144
+
+pub boxes_added : (state : PageState) (edit : Edit) (node : Node) (siblings : List ℕ) → IsValid state.contents → IsPlanned (AddNode node siblings) edit state → AddsBoxes state.contents (edited state.contents edit) (length node.boxes)
+boxes_added state (Add parent at kind boxes style) node siblings valid planned =
+    let page = state.contents in
+    let may = may_add page parent at kind style boxes planned.faultless in
+    let n = new_label page.next kind style boxes in
+    let boxes_are : length node.boxes ≡ length boxes = ap (λ (m : Node). length m.boxes) planned.plan_is.node_is in
+    record {
+      total = elim may.present [
+        | inl none_named ↦ rw (planted-root parent at n page.tree none_named) (omega (arith, boxes_are, no_boxes page.tree (may.root none_named)))
+        | inr there ↦
+            let named : parent ≢ 0 = (λ none_named. false≢true (sym (nowhere page valid) ∙ ap (has_id page) (sym none_named) ∙ there)) in
+            rw (planted-below parent at n page.tree named, total-put_below (λ m. length m.boxes) page.tree parent at n End (once_there page parent valid there)) (omega (arith, boxes_are))
+      ];
+      most = omega (arith, boxes_are, may.total);
+    }
+boxes_added state edit node siblings valid planned = absurd planned.plan_is
+
+-- a planned add
+module _ (nodes : NodesState) (frame : Frame) (counted : IsCounted nodes frame.root frame.boxes (state_of nodes frame).contents) (node : Node) (siblings : List ℕ) where
+  -- the new id is not there, there is room for its node, and it has a place
+  pub record CanAdd (given : NodesState) : Type 0 where
+    pub absent : node_with given.nodes node.id ≡ None
+    pub fits : length given.nodes < given.room
+    pub placed : node.id < given.ids
+    pub next : frame.next < 2 ^ 32 - 1
+    pub boxes : frame.boxes + length node.boxes ≤ 262144
+
+  abbrev page : Contents
+  page = (state_of nodes frame).contents
+
+  pub can_add : (edit : Edit) (given : NodesState) → IsPlanned (AddNode node siblings) edit (state_of nodes frame) → ChangesAt nodes given node.parent (with_children siblings) → CanAdd given
+  can_add (Add parent at kind boxes style) given planned gives =
+      let may = may_add page parent at kind style boxes planned.faultless in
+      let plan = planned.plan_is in
+      let id_is : node.id ≡ page.next = ap (λ (n : Node). n.id) plan.node_is in
+      let boxes_are : length node.boxes ≡ length boxes = ap (λ (n : Node). length n.boxes) plan.node_is in
+      record {
+        absent = gives.looked_up node.id ∙ ap (changed_at node.parent (with_children siblings) node.id) (ap (node_with nodes.nodes) id_is ∙ counted.kept.looked_up page.next ∙ node_in-absent page.tree [] page.next (given-absent page.tree [] page.next page.next counted.kept.valid.given (inr (omega arith)))) ∙ changed-none node.parent (with_children siblings) node.id;
+        fits = omega (arith, gives.count, counted.count, plan.room, gives.same_room.room);
+        placed = omega (arith, id_is, plan.placed, gives.same_room.ids);
+        next = omega (arith, may.next);
+        boxes = omega (arith, counted.boxes_are, boxes_are, may.total);
+      }
+  can_add edit given planned gives = absurd planned.plan_is
+
+  pub planned-add : (edit : Edit) (given new : NodesState) (frame' : Frame) (had : List ℕ) → IsPlanned (AddNode node siblings) edit (state_of nodes frame) → ChangesAt nodes given node.parent (with_children siblings) →
+      had ≡ option_map_or (λ (n : Node). n.children) (node_with nodes.nodes node.parent) siblings →
+      ((k : ℕ) → node_with new.nodes k ≡ (if node.id == k then Some node else node_with given.nodes k)) → length new.nodes ≡ length given.nodes + 1 → new.room ≡ given.room → new.ids ≡ given.ids →
+      frame'.boxes ≡ length node.boxes + frame.boxes → frame'.root ≡ (if node.parent == 0 then Some node.id else frame.root) → frame'.viewport ≡ frame.viewport → frame'.next ≡ frame.next + 1 →
+      Carries new frame' (Added node.id node.parent had) (state_of nodes frame) edit
+  planned-add (Add parent at kind boxes style) given new frame' had planned gives had_is puts count room ids boxes_is root_is viewport_is next_is =
+      let valid = counted.kept.valid in
+      let may = may_add page parent at kind style boxes planned.faultless in
+      let plan = planned.plan_is in
+      let edit = Add parent at kind boxes style in
+      let id_is : node.id ≡ page.next = ap (λ (n : Node). n.id) plan.node_is in
+      let parent_is : node.parent ≡ parent = ap (λ (n : Node). n.parent) plan.node_is ∙ parent-node_added page parent kind style boxes valid may.present in
+      let known : (k : ℕ) → node_with new.nodes k ≡ (if page.next == k then Some (node_added page parent kind style boxes) else changed_at parent (with_children siblings) k (node_with nodes.nodes k)) = (λ k.
+          puts k ∙ ap (λ o. if node.id == k then Some node else o) (gives.looked_up k)
+          ∙ ap (λ i. if i == k then Some node else changed_at node.parent (with_children siblings) k (node_with nodes.nodes k)) id_is
+          ∙ ap (λ n. if page.next == k then Some n else changed_at node.parent (with_children siblings) k (node_with nodes.nodes k)) plan.node_is
+          ∙ ap (λ i. if page.next == k then Some (node_added page parent kind style boxes) else changed_at i (with_children siblings) k (node_with nodes.nodes k)) parent_is) in
+      let label = new_label page.next kind style boxes in
+      let kept : IsKept (node_with new.nodes) frame'.root (edited page edit) = elim (cases_eq parent 0) [
+        | inl none_named ↦
+            let first_is : frame'.root ≡ Some page.next = root_is ∙ ap (λ i. if i == 0 then Some node.id else frame.root) (parent_is ∙ none_named) ∙ ap Some id_is in
+            rw (first_is, planted-root parent at label page.tree none_named) (kept-root page valid parent at kind style boxes planned.in_range may (node_with nodes.nodes) (node_with new.nodes) siblings counted.kept.looked_up plan.siblings_are known none_named)
+        | inr named ↦
+            let there : has_id page parent ≡ true = elim may.present [ inl none_named ↦ absurd (named none_named) | inr there' ↦ there' ] in
+            let is_not : (node.parent == 0) ≡ false = (let apart : node.parent ≢ 0 = (λ is. named (sym parent_is ∙ is)) in grind (arith, nat_tests)) in
+            let first_is : frame'.root ≡ frame.root = root_is ∙ ap (λ (b : Bool). if b then Some node.id else frame.root) is_not in
+            rw (first_is, planted-below parent at label page.tree named) (kept-below page valid parent at kind style boxes planned.in_range may (node_with nodes.nodes) (node_with new.nodes) siblings counted.kept.looked_up plan.siblings_are known there frame.root counted.kept.root)
+      ] in
+      let adds = boxes_added (state_of nodes frame) edit node siblings valid planned in
+      let after_count : node_count (edited page edit).tree ≡ node_count page.tree + 1 = elim (cases_eq parent 0) [
+        | inl none_named ↦ rw (planted-root parent at label page.tree none_named) (omega (arith, may.root none_named))
+        | inr named ↦
+            let there : has_id page parent ≡ true = elim may.present [ inl none_named ↦ absurd (named none_named) | inr there' ↦ there' ] in
+            rw (planted-below parent at label page.tree named, node_count-put_below page.tree parent at label End (once_there page parent valid there)) (omega arith)
+      ] in
+      carries new frame' (Added node.id node.parent had) (state_of nodes frame) edit kept
+      (record {
+        count = omega (arith, count, gives.count, counted.count, after_count);
+        boxes = omega (arith, boxes_is, counted.boxes_are, adds.total);
+        viewport = viewport_is;
+        next = next_is;
+        fits = omega (arith, count, gives.count, counted.count, plan.room, room, gives.same_room.room);
+        placed = λ id positive below. elim (cases_eq id page.next) [
+          | inl is ↦ omega (arith, is, plan.placed, ids, gives.same_room.ids)
+          | inr other ↦ omega (arith, counted.placed id positive (omega (arith, other, below)), ids, gives.same_room.ids)
+        ];
+      })
+      (record {
+        looked_up = λ k. sym (
+            ap (λ o. if node.id == k then None else changed_at node.parent (with_children had) k o) (sym (kept.looked_up k) ∙ puts k ∙ ap (λ o. if node.id == k then Some node else o) (gives.looked_up k))
+            ∙ back k);
+        count = omega (arith, after_count);
+        can_go_back = ap is_some (sym (kept.looked_up node.id) ∙ puts node.id ∙ (let same : (node.id == node.id) ≡ true = grind (arith, nat_tests) in ap (λ (b : Bool). if b then Some node else node_with given.nodes node.id) same));
+        fits = omega (arith, plan.room, room, gives.same_room.room);
+        next = omega arith;
+      })
+      (ap NodeAdded id_is)
+    where
+      back : (k : ℕ) → (if node.id == k then None else changed_at node.parent (with_children had) k (if node.id == k then Some node else changed_at node.parent (with_children siblings) k (node_with nodes.nodes k))) ≡ node_of page k
+      back k = elim (cases_eq node.id k) [
+        | inl here ↦
+            let is : (node.id == k) ≡ true = grind (arith, nat_tests) in
+            rw is (sym (ap (node_of page) (sym here ∙ ap (λ (n : Node). n.id) planned.plan_is.node_is) ∙ node_in-absent page.tree [] page.next (given-absent page.tree [] page.next page.next counted.kept.valid.given (inr (omega arith)))))
+        | inr other ↦
+            let is : (node.id == k) ≡ false = grind (arith, nat_tests) in
+            rw is (children-back node.parent siblings had (node_with nodes.nodes) had_is k ∙ counted.kept.looked_up k)
+      ]
+  planned-add edit given new frame' had planned gives had_is puts count room ids boxes_is root_is viewport_is next_is = absurd planned.plan_is

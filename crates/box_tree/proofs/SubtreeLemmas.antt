@@ -12,8 +12,7 @@ use Rattle.box_tree.specs.Contents.{Contents, node_of, placed_of, tree_of, below
 use Rattle.box_tree.specs.Edited.{ancestors_below}
 use Rattle.box_tree.specs.Planned.{ids_without, is_among}
 use Rattle.box_tree.proofs.ForestLemmas.{placed_in-head, placed_in-below, placed_in-others}
-use Rattle.box_tree.proofs.PlanLemmas.{id-placed_in}
-use Rattle.box_tree.proofs.PlacedLemmas.{AreAtPlaces, trees_from, trees_from-all, depth-placed_in, IsSeenAt, seen_at, IsChildAt, child_at}
+use Rattle.box_tree.proofs.PlacedLemmas.{id-placed_in, AreAtPlaces, trees_from, trees_from-all, depth-placed_in, IsSeenAt, seen_at, IsChildAt, child_at}
 
 -- where a node was found: at the head, or below it, or in the other trees
 pub data Found (n : Label) (below others : Forest) (above : List Label) (id : ℕ) (p : Placed) : Type 0 where

@@ -1,5 +1,5 @@
 -- What suits a place, by the parent or the node as a reader sees it, and where a tree is put below another node.
-use Rattle.std.proofs.Common.{◌≡◌, ℕ, suc, ◌+◌, ◌==◌, List, [], ◌∷◌, length, map, Option, Some, None, is_none, Bool, true, false, not, ◌&&◌, refl, sym, ap, ◌∙◌, arith}
+use Rattle.std.proofs.Common.{◌≡◌, ℕ, ◌+◌, ◌==◌, List, [], ◌∷◌, length, Option, Some, None, is_none, true, not, ◌&&◌, refl, sym, ap, ◌∙◌, arith}
 use Rattle.std.specs.Option.{option_map, option_map_or}
 use Rattle.std.proofs.lemmas.Bool.Decides.{nat_tests}
 use Rattle.computed_style.specs.declared.style.Style.{Style}
@@ -10,7 +10,7 @@ use Rattle.box_tree.specs.declared.piece.Piece.{Piece}
 use Rattle.box_tree.specs.Forest.{Label, Placed}
 use Rattle.box_tree.specs.Contents.{Contents, node_at, node_of, placed_of, ancestors_of}
 use Rattle.box_tree.specs.Edited.{ancestors_below}
-use Rattle.box_tree.specs.Suits.{is_text, may_hold, parent_kind, has_no_parent, is_below_root, kind_suits, box_count_suits, takes_style, style_suits, node_suits}
+use Rattle.box_tree.specs.Suits.{is_text, may_hold, has_no_parent, kind_suits, box_count_suits, takes_style, style_suits, node_suits}
 use Rattle.box_tree.specs.SuitsBelow.{kind_suits_below, node_suits_below}
 use Rattle.box_tree.proofs.PlacedLemmas.{seen_at}
 

@@ -1,5 +1,5 @@
 -- The contents of a page, what is read of it, and when it is valid.
-use Rattle.std.specs.Prelude.{ℕ, ◌+◌, ◌<◌, ◌≤◌, ◌^◌, List, [], ◌∷◌, length, Option, Bool, not, nat_le, is_some, IsTrue, ℤ, pos, ◌≤ℤ◌, ◌+ℤ◌, neg_ℤ, map, All}
+use Rattle.std.specs.Prelude.{ℕ, ◌+◌, ◌<◌, ◌≤◌, ◌^◌, List, [], ◌∷◌, length, Option, Bool, is_some, IsTrue, ℤ, pos, ◌≤ℤ◌, ◌+ℤ◌, All}
 use Rattle.std.specs.Option.{option_map, option_map_or}
 use Rattle.fractions.specs.declared.rect.Spot.{Spot}
 use Rattle.computed_style.specs.declared.style.Style.{Style}

@@ -1,11 +1,15 @@
--- Kept nodes with the number of their boxes.
-use Rattle.std.specs.Prelude.{◌≡◌, ℕ, List, Option}
-use Rattle.box_tree.specs.declared.node.Node.{Node}
+-- Kept nodes with their number, the number of their boxes, and the room for them.
+use Rattle.std.specs.Prelude.{◌≡◌, ℕ, ◌<◌, ◌≤◌, length, Option}
 use Rattle.box_tree.specs.Contents.{Contents}
-use Rattle.box_tree.specs.Kept.{IsKept}
+use Rattle.box_tree.specs.Forest.{node_count}
+use Rattle.box_tree.specs.Kept.{node_with, IsKept}
+use Rattle.box_tree.specs.Nodes.{NodesState}
 use Rattle.box_tree.specs.Totals.{box_count}
 
--- the nodes are those of the page, and so many boxes are there
-pub record IsCounted (nodes : List Node) (first : Option ℕ) (boxes : ℕ) (page : Contents) : Type 0 where
-  pub kept : IsKept nodes first page
+-- the nodes are those of the page, so many boxes are there, and each id that was given has a place
+pub record IsCounted (nodes : NodesState) (first : Option ℕ) (boxes : ℕ) (page : Contents) : Type 0 where
+  pub kept : IsKept (node_with nodes.nodes) first page
+  pub count : length nodes.nodes ≡ node_count page.tree
   pub boxes_are : boxes ≡ box_count page.tree
+  pub fits : length nodes.nodes ≤ nodes.room
+  pub placed : (id : ℕ) → 0 < id → id < page.next → id < nodes.ids

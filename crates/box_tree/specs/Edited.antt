@@ -17,7 +17,7 @@ use Rattle.box_tree.specs.declared.edit.EditFault.TheVariants as fault
 use Rattle.box_tree.specs.Forest.{Label, Forest, End, Grow, roots_of, node_count, height_of, occurrences}
 use Rattle.box_tree.specs.Suits.{has_no_parent, kind_suits, box_count_suits, takes_place, takes_style, node_suits}
 use Rattle.box_tree.specs.Totals.{box_count}
-use Rattle.box_tree.specs.Contents.{Contents, placed_of, tree_of, ancestors_of, has_id, depth_below, new_label, IsBoxInRange, IsSpotInRange, IsMaxInRange}
+use Rattle.box_tree.specs.Contents.{Contents, placed_of, tree_of, has_id, depth_below, new_label, IsBoxInRange, IsSpotInRange, IsMaxInRange}
 
 -- an id is from 1 to 4,294,967,295
 abbrev pub IsId : ℕ → Type 0

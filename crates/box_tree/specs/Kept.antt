@@ -1,9 +1,10 @@
--- What the kept nodes of a page mean: the tree that they make from the root down.
-use Rattle.std.specs.Prelude.{◌≡◌, ℕ, zero, suc, ◌<◌, List, [], ◌∷◌, length, Option, Some, None, if◌then◌else◌, ◌==◌, slice_get, slice_set}
+-- What the kept nodes of a page mean: the tree that they make from the root down. This speaks of how each id is looked up
+-- alone, so the order of the nodes does not matter.
+use Rattle.std.specs.Prelude.{◌≡◌, ℕ, zero, suc, List, [], ◌∷◌, Option, Some, None, if◌then◌else◌, ◌==◌}
 use Rattle.std.specs.Option.{option_to_list}
 use Rattle.box_tree.specs.declared.node.Node.{Node}
 use Rattle.box_tree.specs.declared.viewport.Viewport.{Viewport}
-use Rattle.box_tree.specs.Forest.{Label, Forest, End, Grow, roots_of, node_count}
+use Rattle.box_tree.specs.Forest.{Label, Forest, End, Grow, roots_of}
 use Rattle.box_tree.specs.Contents.{Contents, node_of, IsValid}
 
 -- the node of an id
@@ -20,44 +21,29 @@ abbrev pub tree_before : (List ℕ → Forest) → Option Node → Forest → Fo
 tree_before below None others = others
 tree_before below (Some n) others = Grow (label_of n) (below n.children) others
 
--- the trees of these ids
-abbrev pub trees_of : (List ℕ → Forest) → List Node → List ℕ → Forest
-trees_of below nodes [] = End
-trees_of below nodes (id ∷ ids) = tree_before below (node_with nodes id) (trees_of below nodes ids)
+-- the trees of these ids, where each is looked up so
+abbrev pub trees_of : (List ℕ → Forest) → (ℕ → Option Node) → List ℕ → Forest
+trees_of below look [] = End
+trees_of below look (id ∷ ids) = tree_before below (look id) (trees_of below look ids)
 
 -- the trees that the nodes make of these ids, at most so many levels of them
-unfoldable pub grown : ℕ → List Node → List ℕ → Forest
-grown zero nodes ids = End
-grown (suc levels) nodes ids = trees_of (grown levels nodes) nodes ids
+unfoldable pub grown : ℕ → (ℕ → Option Node) → List ℕ → Forest
+grown zero look ids = End
+grown (suc levels) look ids = trees_of (grown levels look) look ids
 
 -- the greatest number of levels of a page
 abbrev pub levels_at_most : ℕ
 levels_at_most = 256
 
 -- the page that kept nodes mean
-abbrev pub page_of : List Node → Option ℕ → Viewport → ℕ → Contents
-page_of nodes first viewport next = record { tree = grown levels_at_most nodes (option_to_list first); viewport = viewport; next = next }
-
--- the ids of the nodes rise, all above a number
-abbrev pub IsRisingFrom : ℕ → List Node → Type 0
-IsRisingFrom low [] = Unit {0}
-IsRisingFrom low (n ∷ nodes) = (low < n.id) × IsRisingFrom n.id nodes
+abbrev pub page_of : (ℕ → Option Node) → Option ℕ → Viewport → ℕ → Contents
+page_of look first viewport next = record { tree = grown levels_at_most look (option_to_list first); viewport = viewport; next = next }
 
 -- the nodes are those of the page: looking an id up in them is looking it up in the page
-pub record IsKept (nodes : List Node) (first : Option ℕ) (page : Contents) : Type 0 where
+pub record IsKept (look : ℕ → Option Node) (first : Option ℕ) (page : Contents) : Type 0 where
   pub valid : IsValid page
-  pub looked_up : (id : ℕ) → node_with nodes id ≡ node_of page id
-  pub rising : IsRisingFrom 0 nodes
+  pub looked_up : (id : ℕ) → look id ≡ node_of page id
   pub root : option_to_list first ≡ roots_of page.tree
-  pub count : length nodes ≡ node_count page.tree
-
--- one node, that with the id, is changed
-pub record ChangesNode (old new : List Node) (id : ℕ) (change : Node → Node) : Type 0 where
-  pub place : ℕ
-  pub node : Node
-  pub at_place : slice_get old place ≡ Some node
-  pub id_is : node.id ≡ id
-  pub new_is : new ≡ slice_set old place (change node)
 
 -- a node with these children
 abbrev pub with_children : List ℕ → Node → Node

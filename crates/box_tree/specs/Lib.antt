@@ -11,3 +11,8 @@ pub mod Suits
 pub mod SuitsBelow
 pub mod Totals
 pub mod Counted
+pub mod Nodes
+pub mod Slots
+pub mod Change
+pub mod Taken
+pub mod Undone

@@ -1,8 +1,8 @@
 -- What a prepared edit holds, and an edit that was carried out.
-use Rattle.std.specs.Prelude.{◌≡◌, ℕ, ◌+◌, ◌-◌, ◌^◌, ◌<◌, ◌==◌, min, if◌then◌else◌, List, [], Bool, not, None, Some, nat_lt, ℤ}
+use Rattle.std.specs.Prelude.{◌≡◌, ℕ, ◌+◌, ◌-◌, ◌^◌, ◌<◌, ◌≤◌, ◌==◌, min, if◌then◌else◌, List, [], ◌∷◌, length, Bool, not, Option, None, Some, ℤ, Vec, vec_len, vec_capacity}
+use Rattle.std.specs.declared.alloc.Global.{Global}
 use Rattle.std.specs.Option.{option_map, option_map_or}
 use Rattle.std.specs.List.{insert, filter, list_any}
-use Rattle.std.specs.List.Sorted.{IsNonDecreasing}
 use Rattle.fractions.specs.declared.rect.Spot.{Spot}
 use Rattle.computed_style.specs.declared.style.Style.{Style}
 use Rattle.box_tree.specs.declared.kind.Kind.{Kind}
@@ -11,12 +11,15 @@ use Rattle.box_tree.specs.declared.node.Node.{Node}
 use Rattle.box_tree.specs.declared.edit.Edit.{Edit}
 use Rattle.box_tree.specs.declared.edit.Edit.TheVariants.{Add, Remove, Move, Place, Restyle, Resize}
 use Rattle.box_tree.specs.declared.plan.Plan.{Plan}
-use Rattle.box_tree.specs.declared.plan.Placement.{Placement}
+use Rattle.box_tree.specs.declared.plan.Change.{Change}
 use Rattle.box_tree.specs.declared.plan.Relocation.{Relocation}
-use Rattle.box_tree.specs.declared.plan.Plan.TheVariants.{AddNode, RemoveNodes, MoveNodes, PlaceNode, RestyleNode, ResizeViewport}
-use Rattle.box_tree.specs.Forest.{End, node_count, occurrences}
+use Rattle.box_tree.specs.declared.plan.Plan.TheVariants.{AddNode, RemoveNodes, MoveNodes, ChangeNode, ResizeViewport}
+use Rattle.box_tree.specs.Forest.{Label, End, node_count, ids_in}
 use Rattle.box_tree.specs.Contents.{Contents, depth_below, new_label, node_at, node_of, tree_of}
-use Rattle.box_tree.specs.Edited.{IsInRange, first_fault, ancestors_below}
+use Rattle.box_tree.specs.Change.{changed}
+use Rattle.box_tree.specs.Edited.{IsInRange, first_fault, ancestors_below, laid_out, restyled}
+use Rattle.box_tree.specs.Kept.{with_children, with_label}
+use Rattle.box_tree.specs.Nodes.{changed_at}
 use Rattle.box_tree.specs.PageState.{PageState}
 
 -- the node that an add makes
@@ -32,6 +35,7 @@ pub record IsAddPlan (page : PageState) (parent at : ℕ) (kind : Kind) (style :
   pub node_is : node ≡ node_added page.contents parent kind style boxes
   pub siblings_are : siblings ≡ children_with page.contents parent at
   pub room : node_count page.contents.tree < page.room
+  pub placed : page.contents.next < page.ids
 
 -- the ids without one of them
 abbrev pub ids_without : ℕ → List ℕ → List ℕ
@@ -45,24 +49,37 @@ children_without page parent id = option_map_or (λ n. ids_without id n.children
 abbrev pub is_among : List ℕ → ℕ → Bool
 is_among ids id = list_any (λ other. other == id) ids
 
--- these are the ids of a node and of all below it, in an order in which they can be searched
-pub record AreIdsOfTree (page : Contents) (id : ℕ) (ids : List ℕ) : Type 0 where
-  pub in_order : IsNonDecreasing ids
-  pub ids_are : (other : ℕ) → is_among ids other ≡ nat_lt 0 (occurrences (tree_of page id) other)
+-- how often a number stands in a list
+abbrev pub times_in : ℕ → List ℕ → ℕ
+times_in k [] = 0
+times_in k (x ∷ xs) = (if x == k then 1 else 0) + times_in k xs
 
--- the parent of a node, its children without the node, and the ids of the nodes that go, as a remove needs them
-pub record IsRemovePlan (page : Contents) (id parent : ℕ) (siblings gone : List ℕ) : Type 0 where
+-- the parent of a node, its children without the node, the ids of the nodes that go, and room for so many nodes, as a
+-- remove needs them
+pub record IsRemovePlan (page : Contents) (id parent : ℕ) (siblings ids : List ℕ) (gone : Vec Node Global) : Type 0 where
   pub parent_is : option_map (λ n. n.parent) (node_of page id) ≡ Some parent
   pub siblings_are : siblings ≡ children_without page parent id
-  pub gone_are : AreIdsOfTree page id gone
+  pub ids_are : ids ≡ ids_in (tree_of page id)
+  pub gone_none : gone.items ≡ []
+  pub gone_room : vec_len gone + length ids ≤ vec_capacity gone
 
 -- a node of a moved tree at its new depth, the moved node itself below its new parent
 abbrev pub relocated : Relocation → Node → Node
 relocated r n = record n { parent = if n.id == r.id then r.parent else n.parent; depth = min (n.depth - r.old_depth + r.depth) (2 ^ 32 - 1) }
 
--- a node, relocated where it is one of the moved nodes
-abbrev pub relocated_among : Relocation → List ℕ → Node → Node
-relocated_among r ids n = if is_among ids n.id then relocated r n else n
+-- the way back
+abbrev pub back_from : Relocation → Relocation
+back_from r = record { id = r.id; from = r.parent; parent = r.from; old_depth = r.depth; depth = r.old_depth }
+
+-- what is looked up of an id, relocated where it is one of the moved nodes
+abbrev pub relocated_at : Relocation → List ℕ → ℕ → Option Node → Option Node
+relocated_at r ids k o = if is_among ids k then option_map (relocated r) o else o
+
+-- what is looked up of an id once the old parent has the children `siblings`, then the new one `children`, and the nodes
+-- of these ids are relocated
+abbrev pub moved_at : Relocation → List ℕ → List ℕ → List ℕ → ℕ → Option Node → Option Node
+moved_at r siblings children ids k o =
+    relocated_at r ids k (changed_at r.parent (with_children children) k (changed_at r.from (with_children siblings) k o))
 
 -- where a node of the page goes that is moved below `parent`
 pub record IsPlaceFor (page : Contents) (id parent : ℕ) (r : Relocation) : Type 0 where
@@ -78,19 +95,12 @@ pub record IsMovePlan (page : Contents) (id parent at : ℕ) (r : Relocation) (s
   pub place_is : IsPlaceFor page id parent r
   pub siblings_are : siblings ≡ children_without page r.from id
   pub children_are : children ≡ insert (children_without page parent id) at id
-  pub ids_are : AreIdsOfTree page id ids
+  pub ids_are : ids ≡ ids_in (tree_of page id)
 
--- how a node is laid out, and its boxes
-pub record IsPlacePlan (id : ℕ) (anchor : Spot) (boxes : List Piece) (max : Spot) (p : Placement) (own : List Piece) : Type 0 where
-  pub id_is : p.id ≡ id
-  pub anchor_is : p.anchor ≡ anchor
-  pub boxes_are : own ≡ boxes
-  pub max_is : p.max ≡ max
-
--- a node and its declared style
-pub record IsRestylePlan (id : ℕ) (style : Style) (id' : ℕ) (own : Style) : Type 0 where
+-- a node and what it gets, which makes of it what the edit makes of its label
+pub record IsChangePlan (page : Contents) (id : ℕ) (relabel : Label → Label) (id' : ℕ) (change : Change) : Type 0 where
   pub id_is : id' ≡ id
-  pub style_is : own ≡ style
+  pub change_is : option_map (with_label (changed change)) (node_of page id) ≡ option_map (with_label relabel) (node_of page id)
 
 -- the sides of the viewport and its greatest scroll
 pub record IsResizePlan (w h : ℤ) (max : Spot) (w' h' : ℤ) (max' : Spot) : Type 0 where
@@ -101,10 +111,10 @@ pub record IsResizePlan (w h : ℤ) (max : Spot) (w' h' : ℤ) (max' : Spot) : T
 -- the plan is one for the edit on the page
 abbrev pub IsPlanFor : Plan → Edit → PageState → Type 0
 IsPlanFor (AddNode node siblings) (Add parent at kind boxes style) page = IsAddPlan page parent at kind style boxes node siblings
-IsPlanFor (RemoveNodes parent siblings gone) (Remove id) page = IsRemovePlan page.contents id parent siblings gone
+IsPlanFor (RemoveNodes parent siblings ids gone) (Remove id) page = IsRemovePlan page.contents id parent siblings ids gone
 IsPlanFor (MoveNodes place siblings children ids) (Move id parent at) page = IsMovePlan page.contents id parent at place siblings children ids
-IsPlanFor (PlaceNode placement own) (Place id anchor boxes max) page = IsPlacePlan id anchor boxes max placement own
-IsPlanFor (RestyleNode id' own) (Restyle id style) page = IsRestylePlan id style id' own
+IsPlanFor (ChangeNode id' change) (Place id anchor boxes max) page = IsChangePlan page.contents id (laid_out anchor boxes max) id' change
+IsPlanFor (ChangeNode id' change) (Restyle id style) page = IsChangePlan page.contents id (restyled style) id' change
 IsPlanFor (ResizeViewport w' h' max') (Resize w h max) page = IsResizePlan w h max w' h' max'
 IsPlanFor plan edit page = ⊥
 

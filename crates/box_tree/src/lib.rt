@@ -11,6 +11,7 @@ mod edit;
 mod item;
 mod kind;
 mod node;
+mod nodes;
 mod page;
 mod piece;
 mod plan;

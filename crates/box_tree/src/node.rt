@@ -1,6 +1,5 @@
 ghost use Rattle.std.specs.Prelude.{◌≡◌, ◌≤◌, length, IfOk};
 ghost use Rattle.std.specs.List.{insert};
-ghost use Rattle.std.specs.List.Sorted.{IsNonDecreasing};
 ghost use Rattle.box_tree.specs.Planned.{ids_without, is_among};
 
 use crate::kind::Kind;
@@ -57,11 +56,11 @@ impl IdList {
         Ok(IdList(ids))
     }
 
-    // Whether an id is in the list, whose ids are in order.
+    // Whether an id is in the list.
     pub(crate) fn contains(&self, id: u32) -> bool
-        ensures { IsNonDecreasing self.now → result ≡ is_among self.now id }
+        ensures { result ≡ is_among self.now id }
     {
-        self.0.binary_search(&id).is_ok()
+        self.0.contains(&id)
     }
 }
 

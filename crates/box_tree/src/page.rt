@@ -1,14 +1,15 @@
-ghost use Rattle.std.specs.Prelude.{◌≡◌, ◌≢◌, ◌+◌, ◌≤◌, ◌<◌, ◌↔◌, ◌^◌, pos, ◌≤ℤ◌, length, slice_get, Some, None, IsTrue, IsNone, IfSome, IfNone, IfOk, IfErr, OnOk, OnErr};
+ghost use Rattle.std.specs.Prelude.{◌≡◌, ◌≢◌, ◌+◌, ◌≤◌, ◌↔◌, ◌^◌, pos, ◌≤ℤ◌, Some, None, IsTrue, IsNone, IfOk, IfErr, OnOk};
 ghost use Rattle.std.specs.Option.{option_to_list, option_copied};
 ghost use Rattle.box_tree.specs.Contents.{empty_page, has_id, node_of, IsValid};
 ghost use Rattle.box_tree.specs.Edited.{IsInRange, first_fault, edited, answer_of};
 ghost use Rattle.box_tree.specs.Forest.{roots_of, node_count};
-ghost use Rattle.box_tree.specs.Kept.{node_with, IsRisingFrom};
 
 use crate::edit::{Done, Edit, EditFault};
 use crate::node::{Node, ORIGIN};
-use crate::plan::{Placement, Plan, Prepared, Undo};
+use crate::nodes::Nodes;
+use crate::plan::{Frame, Plan, Prepared, Undo};
 use crate::viewport::Viewport;
+use self::reverts::{answer_by, put_back};
 use fractions::{Ledger, Steps};
 use std::alloc::Global;
 use std::marker::Model;
@@ -16,26 +17,22 @@ use std::snapshot::Snapshot;
 
 mod adds;
 mod boxes;
+mod changes;
 mod moves;
 mod places;
 mod removes;
 mod resizes;
 mod restyles;
+mod reverts;
 
 /// A page: a tree of nodes or none, seen through a viewport.
 #[derive(Drop)]
 pub struct Page {
-    // in the order of their ids
-    nodes: Vec<Node>,
-    // how many boxes these nodes have
-    boxes: usize,
-    root: Option<u32>,
-    viewport: Viewport,
-    next: u32,
+    nodes: Nodes,
+    frame: Frame,
 }
 
 impl Model for Page {
-    ghost use Rattle.std.specs.Prelude.{vec_capacity};
     ghost use Rattle.std.specs.Coded.{Coded, codes};
     ghost use Rattle.box_tree.specs.Forest.{Label};
     ghost use Rattle.box_tree.specs.ForestCode.{forest_code};
@@ -45,12 +42,12 @@ impl Model for Page {
 
     ghost coded = { let label : Coded Label = Prim.hlevel codes in Prim.hlevel (codes, forest_code label) };
 
-    ghost use Rattle.box_tree.specs.Kept.{page_of};
+    ghost use Rattle.box_tree.specs.Kept.{node_with, page_of};
     ghost use Rattle.box_tree.specs.Counted.{IsCounted};
 
-    ghost view = { λ p. record { contents = page_of p.nodes.items p.root p.viewport p.next; room = vec_capacity p.nodes } };
+    ghost view = { λ p. record { contents = page_of (node_with p.nodes.nodes) p.frame.root p.frame.viewport p.frame.next; room = p.nodes.room; ids = p.nodes.ids } };
 
-    ghost invariant = { λ p. IsCounted p.nodes.items p.root p.boxes (page_of p.nodes.items p.root p.viewport p.next) };
+    ghost invariant = { λ p. IsCounted p.nodes p.frame.root p.frame.boxes (page_of (node_with p.nodes.nodes) p.frame.root p.frame.viewport p.frame.next) };
 }
 
 impl Page {
@@ -61,16 +58,18 @@ impl Page {
         ensures { result.contents ≡ empty_page w h }
     {
         Page {
-            nodes: Vec::new(alloc),
-            boxes: 0,
-            root: None,
-            viewport: Viewport {
-                w,
-                h,
-                scroll: ORIGIN,
-                max: ORIGIN,
+            nodes: Nodes::new(alloc),
+            frame: Frame {
+                boxes: 0,
+                root: None,
+                viewport: Viewport {
+                    w,
+                    h,
+                    scroll: ORIGIN,
+                    max: ORIGIN,
+                },
+                next: 1,
             },
-            next: 1,
         }
     }
 
@@ -86,14 +85,14 @@ impl Page {
         ensures root { option_to_list result ≡ roots_of self.now.contents.tree }
         ensures none { IsNone result ↔ (node_count self.now.contents.tree ≡ 0) }
     {
-        self.root
+        self.frame.root
     }
 
     /// The viewport, in units.
     pub fn viewport(&self) -> Viewport
         ensures { result ≡ self.now.contents.viewport }
     {
-        self.viewport
+        self.frame.viewport
     }
 
     /// How many nodes there are, at most 65,536.
@@ -117,8 +116,7 @@ impl Page {
     pub(crate) fn find(&self, id: u32) -> Option<&Node>
         ensures { option_copied result ≡ node_of self.now.contents id }
     {
-        let place = place_of(&self.nodes, id)?;
-        Some(&self.nodes[place])
+        self.nodes.find(id)
     }
 
     /// Tests an edit, and takes all memory that carrying it out needs. The contents stay; the room never shrinks.
@@ -147,14 +145,7 @@ impl Page {
                 anchor,
                 boxes,
                 max,
-            } => {
-                let placement = Placement {
-                    id: *id,
-                    anchor: *anchor,
-                    max: *max,
-                };
-                self.plan_place(placement, boxes)?
-            }
+            } => self.plan_place(*id, *anchor, boxes, *max)?,
             Edit::Restyle { id, style } => self.plan_restyle(*id, style)?,
             Edit::Resize { w, h, max } => self.plan_resize(*w, *h, *max),
         };
@@ -165,7 +156,7 @@ impl Page {
         })
     }
 
-    /// Carries out an edit that was prepared from this page as it stands.
+    /// Carries out an edit that was prepared from this page as it stands. The room never shrinks.
     pub fn commit(&mut self, prepared: Prepared) -> Undo
         requires { prepared.page ≡ self.old }
         ensures contents { self.new.contents ≡ edited self.old.contents prepared.edit }
@@ -173,36 +164,57 @@ impl Page {
         ensures before { result.before ≡ self.old.contents }
         ensures after { result.after ≡ self.new.contents }
         ensures room { result.room ≡ self.new.room }
+        ensures room_kept { self.old.room ≤ self.new.room }
     {
         let before = Snapshot::of(self);
+        let frame = self.frame;
         let Prepared {
             plan,
             edit,
             page: _,
         } = prepared;
-        let done = match plan {
+        let taken = match plan {
             Plan::AddNode { node, siblings } => self.add(node, siblings, &edit),
             Plan::RemoveNodes {
                 parent,
                 siblings,
+                ids,
                 gone,
-            } => self.remove(parent, siblings, gone, &edit),
+            } => self.remove(parent, siblings, &ids, gone, &edit),
             Plan::MoveNodes {
                 place,
                 siblings,
                 children,
                 ids,
             } => self.relocate(place, siblings, children, ids, &edit),
-            Plan::PlaceNode { placement, boxes } => self.place(placement, boxes, &edit),
-            Plan::RestyleNode { id, style } => self.restyle(id, style, &edit),
+            Plan::ChangeNode { id, change } => self.change(id, change, &edit),
             Plan::ResizeViewport { w, h, max } => self.resize(w, h, max, &edit),
         };
         Undo {
-            done,
+            taken,
+            frame,
             edit,
             before,
             after: Snapshot::of(self),
         }
+    }
+
+    /// Takes an edit back: the page is the one before it, the next id too. It takes no memory, and the room stays.
+    pub fn revert(&mut self, undo: Undo)
+        requires contents { undo.after ≡ self.old.contents }
+        requires room { undo.room ≡ self.old.room }
+        ensures contents { self.new.contents ≡ undo.before }
+        ensures room { self.new.room ≡ self.old.room }
+    {
+        let Undo {
+            taken,
+            frame,
+            edit: _,
+            before: _,
+            after: _,
+        } = undo;
+        put_back(&mut self.nodes, taken);
+        self.frame = frame;
     }
 
     /// Gives up what the edit took out, and answers it.
@@ -213,12 +225,13 @@ impl Page {
         ensures answer { result ≡ answer_of undo.before undo.edit }
     {
         let Undo {
-            done,
+            taken,
+            frame: _,
             edit: _,
             before: _,
             after: _,
         } = undo;
-        done
+        answer_by(&taken)
     }
 
     /// What holds of the contents of every page.
@@ -227,15 +240,6 @@ impl Page {
     {
         let _ = &self.nodes;
     }
-}
-
-// The place of the node with this id.
-fn place_of(nodes: &[Node], id: u32) -> Option<usize>
-    requires { IsRisingFrom 0 nodes.now }
-    ensures found { IfSome result (λ place. (place < length nodes.now) × (slice_get nodes.now place ≡ node_with nodes.now id)) }
-    ensures absent { IfNone result (node_with nodes.now id ≡ None) }
-{
-    nodes.binary_search_by_key(&id, |node| node.id).ok()
 }
 
 #[cfg(test)]

@@ -1,18 +1,39 @@
-use crate::edit::{Done, Edit};
+use crate::edit::Edit;
 use crate::node::{Boxes, IdList, Node};
 use crate::page::Page;
+use crate::viewport::Viewport;
 use computed_style::Style;
 use fractions::Spot;
 use std::marker::Model;
 use std::snapshot::Snapshot;
 
-/// How a node is laid out, beside its boxes.
-#[derive(Clone, Copy)]
-pub(crate) struct Placement {
-    pub(crate) id: u32,
+/// How a node is laid out.
+#[derive(Drop)]
+pub(crate) struct Layout {
     pub(crate) anchor: Spot,
+    pub(crate) boxes: Boxes,
+    /// How far the node is scrolled.
+    pub(crate) scroll: Spot,
     /// The greatest scroll.
     pub(crate) max: Spot,
+}
+
+/// What a node gets in place of what it has.
+#[derive(Drop)]
+pub(crate) enum Change {
+    Layout(Layout),
+    Style(Style),
+}
+
+/// What a page is beside its nodes.
+#[derive(Clone, Copy)]
+pub(crate) struct Frame {
+    /// How many boxes the nodes have.
+    pub(crate) boxes: usize,
+    pub(crate) root: Option<u32>,
+    pub(crate) viewport: Viewport,
+    /// The id of the next node.
+    pub(crate) next: u32,
 }
 
 /// Where a moved node goes.
@@ -37,11 +58,13 @@ pub(crate) enum Plan {
         node: Node,
         siblings: IdList,
     },
-    /// The parent of the node that goes, the children that the parent then has, and the ids of all nodes that go.
+    /// The parent of the node that goes, the children that the parent then has, the ids of all nodes that go, and room for
+    /// them.
     RemoveNodes {
         parent: u32,
         siblings: IdList,
-        gone: IdList,
+        ids: IdList,
+        gone: Vec<Node>,
     },
     /// Where the node goes, the children that its old parent and then its new one have, and the ids of all nodes that go
     /// with it.
@@ -51,15 +74,10 @@ pub(crate) enum Plan {
         children: IdList,
         ids: IdList,
     },
-    /// How the node is laid out, and its boxes.
-    PlaceNode {
-        placement: Placement,
-        boxes: Boxes,
-    },
-    /// The node and its declared style.
-    RestyleNode {
+    /// The node and what it gets.
+    ChangeNode {
         id: u32,
-        style: Style,
+        change: Change,
     },
     /// The sides of the viewport and its greatest scroll.
     ResizeViewport {
@@ -67,6 +85,38 @@ pub(crate) enum Plan {
         h: i64,
         max: Spot,
     },
+}
+
+/// What carrying out an edit took out of the nodes of the page or replaced there, by which it is taken back.
+#[derive(Drop)]
+pub(crate) enum Taken {
+    /// The node that came, its parent, and the children that the parent had.
+    Added {
+        id: u32,
+        parent: u32,
+        siblings: IdList,
+    },
+    /// The parent of the node that went, the children that the parent had, and all nodes that went.
+    Removed {
+        parent: u32,
+        siblings: IdList,
+        nodes: Vec<Node>,
+    },
+    /// The way back of the moved node, the children that the new parent had and then those of the old one, and the ids of
+    /// all nodes that went with it.
+    Moved {
+        place: Relocation,
+        siblings: IdList,
+        children: IdList,
+        ids: IdList,
+    },
+    /// The node and what it had.
+    Changed {
+        id: u32,
+        change: Change,
+    },
+    /// No node was touched.
+    Resized,
 }
 
 /// An edit that was tested, with all the memory that carrying it out takes.
@@ -95,19 +145,19 @@ impl Model for Prepared {
 /// An edit that was carried out and not yet settled.
 #[derive(Drop)]
 pub struct Undo {
-    pub(crate) done: Done,
+    pub(crate) taken: Taken,
+    pub(crate) frame: Frame,
     pub(crate) edit: Snapshot<Edit>,
     pub(crate) before: Snapshot<Page>,
     pub(crate) after: Snapshot<Page>,
 }
 
 impl Model for Undo {
-    ghost use Rattle.std.specs.Prelude.{◌≡◌};
     ghost use Rattle.std.specs.Coded.{Coded, codes};
-    ghost use Rattle.box_tree.specs.Edited.{answer_of};
     ghost use Rattle.box_tree.specs.Forest.{Label};
     ghost use Rattle.box_tree.specs.ForestCode.{forest_code};
     ghost use Rattle.box_tree.specs.Planned.{UndoState};
+    ghost use Rattle.box_tree.specs.Undone.{IsUndo};
 
     ghost Value = { UndoState };
 
@@ -115,5 +165,5 @@ impl Model for Undo {
 
     ghost view = { λ u. record { edit = u.edit.value; before = u.before.value.contents; after = u.after.value.contents; room = u.after.value.room } };
 
-    ghost invariant = { λ u. u.done ≡ answer_of u.before.value.contents u.edit.value };
+    ghost invariant = { λ u. IsUndo u.taken u.frame u.edit.value u.before.value u.after.value };
 }

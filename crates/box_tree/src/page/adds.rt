@@ -1,26 +1,28 @@
 // An add: its faults, its plan, and carrying it out.
-ghost use Rattle.std.specs.Prelude.{◌≡◌, ◌≢◌, ◌+◌, ◌*◌, ◌≤◌, ◌<◌, ◌==◌, ℕ, List, [], length, nat_le, vec_capacity, false, All, Some, None, IsTrue, IsSome, IfSome, IfNone, IfOk, IfErr, OnOk, if◌then◌else◌};
+ghost use Rattle.std.specs.Prelude.{◌≡◌, ◌≢◌, ◌+◌, ◌-◌, ◌^◌, ◌≤◌, ◌<◌, ◌==◌, ℕ, [], length, Some, None, IsSome, IfOk, IfErr, if◌then◌else◌};
 ghost use Rattle.std.specs.List.{insert};
 ghost use Rattle.std.specs.Option.{option_map_or, option_copied};
 ghost use Rattle.box_tree.specs.declared.edit.Edit.TheVariants.{Add};
-ghost use Rattle.box_tree.specs.Contents.{has_id};
-ghost use Rattle.box_tree.specs.Edited.{IsAddInRange, first_fault, edited, answer_of, child_count, ancestors_below};
+ghost use Rattle.box_tree.specs.Edited.{IsAddInRange, first_fault, edited, answer_of, ancestors_below};
 ghost use Rattle.box_tree.specs.Forest.{node_count};
-ghost use Rattle.box_tree.specs.Kept.{node_with, with_children, IsRisingFrom, ChangesNode};
+ghost use Rattle.box_tree.specs.Kept.{node_with, with_children};
+ghost use Rattle.box_tree.specs.Nodes.{changed_at, HasSameRoom, ChangesAt};
 ghost use Rattle.box_tree.specs.Planned.{IsPlanned};
 ghost use Rattle.box_tree.specs.Suits.{node_suits};
+ghost use Rattle.box_tree.specs.Taken.{IsTaken, answer_by};
 ghost use Rattle.box_tree.specs.declared.plan.Plan.TheVariants.{AddNode};
 
-use super::{Page, place_of};
-use crate::edit::{Done, Edit, EditFault};
+use super::Page;
+use crate::edit::{Edit, EditFault};
 use crate::kind::Kind;
 use crate::node::{Boxes, IdList, Node, ORIGIN};
+use crate::nodes::Nodes;
 use crate::piece::PieceList;
-use crate::plan::Plan;
+use crate::plan::{Frame, Plan, Taken};
 use crate::suits::node_suits;
 use computed_style::Style;
-use smallvec::SmallVec;
 use std::alloc::{AllocError, Global};
+use std::mem::replace;
 use std::snapshot::Snapshot;
 
 // The greatest depth.
@@ -51,7 +53,7 @@ impl Page {
         if parent != 0 && above.is_none() {
             return Some(EditFault::Absent);
         }
-        if parent == 0 && !self.nodes.is_empty() {
+        if parent == 0 && self.nodes.len() > 0 {
             return Some(EditFault::Root);
         }
         if !self.node_suits_below(parent, kind, style, boxes) {
@@ -95,7 +97,7 @@ impl Page {
         if let Some(fault) = self.fault_of_add(parent, at, kind, boxes, style) {
             return Err(fault);
         }
-        self.nodes.reserve(1)?;
+        self.nodes.reserve(self.frame.next)?;
         self.plan_of_add(parent, at, kind, boxes, style)
     }
 
@@ -111,15 +113,16 @@ impl Page {
         requires range { IsAddInRange boxes.now style.now }
         requires faultless { first_fault self.now.contents (Add parent at kind boxes.now style.now) ≡ None }
         requires room { node_count self.now.contents.tree < self.now.room }
+        requires placed { self.now.contents.next < self.now.ids }
         ensures planned { IfOk result (λ plan. IsPlanned plan (Add parent at kind boxes.now style.now) self.now) }
         ensures memory { IfErr result (λ why. why ≡ EditFault.OutOfMemory) }
     {
         let alloc = *self.nodes.allocator();
         let above = self.find(parent);
         let depth = seat_below(above).depth + 1;
-        let siblings = siblings_with(alloc, above, at, self.next)?;
+        let siblings = siblings_with(alloc, above, at, self.frame.next)?;
         let node = Node {
-            id: self.next,
+            id: self.frame.next,
             kind,
             parent,
             children: IdList(Vec::new(alloc)),
@@ -134,43 +137,52 @@ impl Page {
     }
 
     // Carries out a planned add.
-    pub(super) fn add(&mut self, node: Node, siblings: IdList, edit: &Snapshot<Edit>) -> Done
+    pub(super) fn add(&mut self, node: Node, siblings: IdList, edit: &Snapshot<Edit>) -> Taken
         requires { IsPlanned (AddNode node siblings) edit.now.value self.old }
         ensures contents { self.new.contents ≡ edited self.old.contents edit.now.value }
-        ensures answer { result ≡ answer_of self.old.contents edit.now.value }
+        ensures room { self.new.room ≡ self.old.room }
+        ensures taken { IsTaken result self.old.contents self.new.contents self.new.room }
+        ensures answer { answer_by result ≡ answer_of self.old.contents edit.now.value }
     {
         let id = node.id;
-        if node.parent == 0 {
-            self.add_root(node, edit);
-        } else {
-            self.add_child(node, siblings, edit);
+        let parent = node.parent;
+        let siblings = give_children(&mut self.nodes, parent, siblings);
+        self.frame = frame_with(self.frame, id, parent, node.boxes.count());
+        self.nodes.put(node);
+        Taken::Added {
+            id,
+            parent,
+            siblings,
         }
-        Done::Node { id }
     }
+}
 
-    // The new node is the root.
-    fn add_root(&mut self, node: Node, edit: &Snapshot<Edit>)
-        requires planned { (siblings : List ℕ) × IsPlanned (AddNode node siblings) edit.now.value self.old }
-        requires root { node.parent ≡ 0 }
-        ensures { self.new.contents ≡ edited self.old.contents edit.now.value }
-    {
-        self.root = Some(node.id);
-        self.next += 1;
-        self.boxes += node.boxes.count();
-        self.nodes.push_reserved(node);
+// The frame with a node more, which is the root where its parent is 0.
+fn frame_with(frame: Frame, id: u32, parent: u32, boxes: usize) -> Frame
+    requires ids { frame.next < 2 ^ 32 - 1 }
+    requires boxes { frame.boxes + boxes ≤ 262144 }
+    ensures boxes { result.boxes ≡ boxes + frame.boxes }
+    ensures root { result.root ≡ (if parent == 0 then Some id else frame.root) }
+    ensures viewport { result.viewport ≡ frame.viewport }
+    ensures next { result.next ≡ frame.next + 1 }
+{
+    Frame {
+        boxes: frame.boxes + boxes,
+        root: if parent == 0 { Some(id) } else { frame.root },
+        viewport: frame.viewport,
+        next: frame.next + 1,
     }
+}
 
-    // The new node is a child.
-    fn add_child(&mut self, node: Node, siblings: IdList, edit: &Snapshot<Edit>)
-        requires planned { IsPlanned (AddNode node siblings) edit.now.value self.old }
-        requires child { node.parent ≢ 0 }
-        ensures { self.new.contents ≡ edited self.old.contents edit.now.value }
-    {
-        give_children(&mut self.nodes, node.parent, siblings);
-        self.next += 1;
-        self.boxes += node.boxes.count();
-        self.nodes.push_reserved(node);
-    }
+// Takes the node of an id out, and gives its parent these children.
+pub(super) fn take_added(nodes: &mut Nodes, id: u32, parent: u32, siblings: IdList)
+    requires { IsSome (node_with nodes.old.nodes id) }
+    ensures looked_up { (k : ℕ) → node_with nodes.new.nodes k ≡ (if id == k then None else changed_at parent (with_children siblings) k (node_with nodes.old.nodes k)) }
+    ensures count { length nodes.new.nodes + 1 ≡ length nodes.old.nodes }
+    ensures same_room { HasSameRoom nodes.old nodes.new }
+{
+    nodes.take(id);
+    give_children(nodes, parent, siblings);
 }
 
 // The seat below a node, or below none.
@@ -206,18 +218,16 @@ fn siblings_with(
     }
 }
 
-// The node with this id gets other children.
-pub(super) fn give_children(nodes: &mut Vec<Node>, id: u32, children: IdList)
-    requires rising { IsRisingFrom 0 nodes.old.items }
-    requires there { IsSome (node_with nodes.old.items id) }
-    ensures given { ChangesNode nodes.old.items nodes.new.items id (with_children children) }
-    ensures capacity { vec_capacity nodes.new ≡ vec_capacity nodes.old }
+// The node with this id gets other children, where it is there, and gives up those that it had.
+pub(super) fn give_children(nodes: &mut Nodes, id: u32, children: IdList) -> IdList
+    ensures changed { ChangesAt nodes.old nodes.new id (with_children children) }
+    ensures had { result ≡ option_map_or (λ n. n.children) (node_with nodes.old.nodes id) children }
 {
-    match place_of(nodes, id) {
-        Some(place) => {
-            let node = &mut nodes[place];
-            node.children = children;
-        }
-        None => unreachable!(),
+    if nodes.find(id).is_none() {
+        return children;
     }
+    let mut node = nodes.take(id);
+    let had = replace(&mut node.children, children);
+    nodes.put(node);
+    had
 }

@@ -8,7 +8,7 @@ ghost use Rattle.box_tree.specs.Totals.{box_count};
 use super::Page;
 use crate::node::Node;
 use crate::piece::PieceList;
-use crate::plan::Placement;
+use fractions::Spot;
 
 // The greatest number of nodes at once.
 const NODES: usize = 65_536;
@@ -27,15 +27,21 @@ impl Page {
     pub(super) fn is_full_for(&self, count: usize) -> bool
         ensures { result ≡ is_full_for self.now.contents count }
     {
-        self.nodes.len() >= NODES || (self.next > IDS || has_too_many_boxes(count, self.boxes))
+        self.nodes.len() >= NODES || (self.frame.next > IDS || has_too_many_boxes(count, self.frame.boxes))
     }
 
     // Whether a node that is placed has too many boxes, or the page then.
-    pub(super) fn has_too_many_placed(&self, p: Placement, boxes: &PieceList) -> bool
-        requires { has_id self.now.contents p.id ≡ true }
-        ensures { result ≡ has_too_many_boxes (length boxes.now) (box_count (relabelled p.id (laid_out p.anchor boxes.now p.max) self.now.contents.tree)) }
+    pub(super) fn has_too_many_placed(
+        &self,
+        id: u32,
+        _anchor: Spot,
+        boxes: &PieceList,
+        _max: Spot,
+    ) -> bool
+        requires { has_id self.now.contents id ≡ true }
+        ensures { result ≡ has_too_many_boxes (length boxes.now) (box_count (relabelled id (laid_out _anchor boxes.now _max) self.now.contents.tree)) }
     {
-        has_too_many_boxes(boxes.0.len(), self.boxes - boxes_of(self.find(p.id)))
+        has_too_many_boxes(boxes.0.len(), self.frame.boxes - boxes_of(self.find(id)))
     }
 }
 

@@ -1,19 +1,23 @@
 // A move: its faults, its plan, and carrying it out.
-ghost use Rattle.std.specs.Prelude.{◌≡◌, ◌≢◌, ◌+◌, ◌≤◌, ◌||◌, ◌==◌, not, true, nat_lt, length, map, None, Some, IfOk, IfErr, IsSome};
-ghost use Rattle.std.specs.List.Sorted.{IsNonDecreasing};
+ghost use Rattle.std.specs.Prelude.{◌≡◌, ◌≢◌, ◌+◌, ◌≤◌, ◌||◌, ◌==◌, ℕ, not, true, nat_lt, length, None, Some, IfOk, IfErr, IsSome};
+ghost use Rattle.std.specs.Option.{option_map_or};
 ghost use Rattle.box_tree.specs.declared.edit.Edit.TheVariants.{Move};
 ghost use Rattle.box_tree.specs.declared.plan.Plan.TheVariants.{MoveNodes};
 ghost use Rattle.box_tree.specs.Contents.{tree_of, has_id, node_of, IsValid};
 ghost use Rattle.box_tree.specs.Edited.{IsId, kind_may_move, first_fault, edited, answer_of, ancestors_below, child_count, page_without, is_root};
-ghost use Rattle.box_tree.specs.Forest.{height_of, occurrences};
-ghost use Rattle.box_tree.specs.Planned.{children_without, relocated, relocated_among, AreIdsOfTree, IsPlaceFor, IsPlanned};
+ghost use Rattle.box_tree.specs.Forest.{height_of, ids_in, occurrences};
+ghost use Rattle.box_tree.specs.Kept.{node_with, with_children};
+ghost use Rattle.box_tree.specs.Nodes.{changed_at, HasSameRoom, ChangesAt};
+ghost use Rattle.box_tree.specs.Planned.{times_in, children_without, relocated, relocated_at, moved_at, back_from, IsPlaceFor, IsPlanned};
+ghost use Rattle.box_tree.specs.Taken.{IsTaken, answer_by};
 
 use super::Page;
 use super::adds::{LEVELS, give_children, seat_below};
 use super::removes::{ids_of_tree, siblings_without};
-use crate::edit::{Done, Edit, EditFault};
+use crate::edit::{Edit, EditFault};
 use crate::node::{IdList, Node};
-use crate::plan::{Plan, Relocation};
+use crate::nodes::Nodes;
+use crate::plan::{Plan, Relocation, Taken};
 use crate::suits::kind_suits;
 use std::snapshot::Snapshot;
 
@@ -42,7 +46,7 @@ impl Page {
         ids: &IdList,
         others: &IdList,
     ) -> Option<EditFault>
-        requires ids { AreIdsOfTree self.now.contents id ids.now }
+        requires ids { ids.now ≡ ids_in (tree_of self.now.contents id) }
         requires others { others.now ≡ children_without self.now.contents parent id }
         ensures { result ≡ first_fault self.now.contents (Move id parent at) }
     {
@@ -79,7 +83,7 @@ impl Page {
 
     // Whether the new parent is in the moved tree, which has these ids.
     fn goes_below_itself(&self, id: u32, parent: u32, ids: &IdList) -> bool
-        requires { AreIdsOfTree self.now.contents id ids.now }
+        requires { ids.now ≡ ids_in (tree_of self.now.contents id) }
         ensures { result ≡ nat_lt 0 (occurrences (tree_of self.now.contents id) parent) }
     {
         ids.contains(parent)
@@ -147,7 +151,7 @@ impl Page {
         others: &IdList,
     ) -> Result<Plan, EditFault>
         requires range { IsId id }
-        requires ids { AreIdsOfTree self.now.contents id ids }
+        requires ids { ids ≡ ids_in (tree_of self.now.contents id) }
         requires others { others.now ≡ children_without self.now.contents parent id }
         requires faultless { first_fault self.now.contents (Move id parent at) ≡ None }
         ensures planned { IfOk result (λ plan. IsPlanned plan (Move id parent at) self.now) }
@@ -192,30 +196,64 @@ impl Page {
         children: IdList,
         ids: IdList,
         edit: &Snapshot<Edit>,
-    ) -> Done
+    ) -> Taken
         requires { IsPlanned (MoveNodes place siblings children ids) edit.now.value self.old }
         ensures contents { self.new.contents ≡ edited self.old.contents edit.now.value }
-        ensures answer { result ≡ answer_of self.old.contents edit.now.value }
+        ensures room { self.new.room ≡ self.old.room }
+        ensures taken { IsTaken result self.old.contents self.new.contents self.new.room }
+        ensures answer { answer_by result ≡ answer_of self.old.contents edit.now.value }
     {
-        self.relocate_nodes(place, siblings, children, &ids, edit);
-        Done::Done
+        let had = exchange_places(&mut self.nodes, place, siblings, children, &ids);
+        Taken::Moved {
+            place: way_back(place),
+            siblings: had.children,
+            children: had.siblings,
+            ids,
+        }
     }
+}
 
-    // The same, with the ids lent.
-    fn relocate_nodes(
-        &mut self,
-        place: Relocation,
-        siblings: IdList,
-        children: IdList,
-        ids: &IdList,
-        edit: &Snapshot<Edit>,
-    )
-        requires { IsPlanned (MoveNodes place siblings children ids.now) edit.now.value self.old }
-        ensures { self.new.contents ≡ edited self.old.contents edit.now.value }
-    {
-        give_children(&mut self.nodes, place.from, siblings);
-        give_children(&mut self.nodes, place.parent, children);
-        relocate_all(&mut self.nodes, place, ids);
+// The lists of children that a move exchanges.
+#[derive(Drop)]
+pub(super) struct Lists {
+    // those of the old parent
+    siblings: IdList,
+    // those of the new parent
+    children: IdList,
+}
+
+// Gives the old parent and then the new one their children, and relocates the nodes of these ids. It answers what the
+// parents had.
+pub(super) fn exchange_places(
+    nodes: &mut Nodes,
+    place: Relocation,
+    siblings: IdList,
+    children: IdList,
+    ids: &IdList,
+) -> Lists
+    requires { (k : ℕ) → times_in k ids.now ≤ 1 }
+    ensures looked_up { (k : ℕ) → node_with nodes.new.nodes k ≡ moved_at place siblings children ids.now k (node_with nodes.old.nodes k) }
+    ensures count { length nodes.new.nodes ≡ length nodes.old.nodes }
+    ensures same_room { HasSameRoom nodes.old nodes.new }
+    ensures siblings { result.siblings ≡ option_map_or (λ n. n.children) (node_with nodes.old.nodes place.from) siblings }
+    ensures children { result.children ≡ option_map_or (λ n. n.children) (changed_at place.from (with_children siblings) place.parent (node_with nodes.old.nodes place.parent)) children }
+{
+    let siblings = give_children(nodes, place.from, siblings);
+    let children = give_children(nodes, place.parent, children);
+    relocate_all(nodes, place, ids);
+    Lists { siblings, children }
+}
+
+// The way back.
+fn way_back(place: Relocation) -> Relocation
+    ensures { result ≡ back_from place }
+{
+    Relocation {
+        id: place.id,
+        from: place.parent,
+        parent: place.from,
+        old_depth: place.depth,
+        depth: place.old_depth,
     }
 }
 
@@ -236,28 +274,32 @@ fn levels(page: &Page, id: u32) -> u32
     below + 1
 }
 
-// Each node of the moved tree gets its new depth, and the moved node its new parent.
-fn relocate_all(nodes: &mut Vec<Node>, place: Relocation, ids: &IdList)
-    requires { IsNonDecreasing ids.now }
-    ensures { nodes.new.items ≡ map (relocated_among place ids.now) nodes.old.items }
+// Each node of these ids that is there gets its new depth, and the moved one its new parent.
+fn relocate_all(nodes: &mut Nodes, place: Relocation, ids: &IdList)
+    requires { (k : ℕ) → times_in k ids.now ≤ 1 }
+    ensures looked_up { (k : ℕ) → node_with nodes.new.nodes k ≡ relocated_at place ids.now k (node_with nodes.old.nodes k) }
+    ensures count { length nodes.new.nodes ≡ length nodes.old.nodes }
+    ensures same_room { HasSameRoom nodes.old nodes.new }
 {
-    for node in nodes.iter_mut() {
-        relocate_among(node, place, ids);
+    for id in ids.as_slice() {
+        relocate_node(nodes, place, *id);
     }
 }
 
-// A node gets its new depth and its new parent where it is one of the moved nodes.
-fn relocate_among(node: &mut Node, place: Relocation, ids: &IdList)
-    requires { IsNonDecreasing ids.now }
-    ensures { node.new ≡ relocated_among place ids.now node.old }
+// The node of an id gets its new depth, where it is there, and the one that the move names its new parent.
+fn relocate_node(nodes: &mut Nodes, place: Relocation, id: u32)
+    ensures { ChangesAt nodes.old nodes.new id (relocated place) }
 {
-    if ids.contains(node.id) {
-        relocate_node(node, place);
+    if nodes.find(id).is_none() {
+        return;
     }
+    let mut node = nodes.take(id);
+    reseat(&mut node, place);
+    nodes.put(node);
 }
 
-// A moved node gets its new depth, and the one that the move names its new parent.
-fn relocate_node(node: &mut Node, place: Relocation)
+// A node gets its new depth, and the one that the move names its new parent.
+fn reseat(node: &mut Node, place: Relocation)
     ensures { node.new ≡ relocated place node.old }
 {
     node.depth = node

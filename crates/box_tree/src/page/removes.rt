@@ -1,21 +1,23 @@
 // A remove: its fault, its plan, and carrying it out.
-ghost use Rattle.std.specs.Prelude.{◌≡◌, ◌≢◌, ◌++◌, ℕ, List, [], not, Some, IfOk, IfErr};
-ghost use Rattle.std.specs.List.{filter};
-ghost use Rattle.std.specs.List.Sorted.{IsNonDecreasing};
-ghost use Rattle.std.specs.Option.{option_map_or, option_copied};
+ghost use Rattle.std.specs.Prelude.{◌≡◌, ◌≢◌, ◌+◌, ◌≤◌, ◌<◌, ◌==◌, ◌++◌, ℕ, [], length, true, None, Some, IsSome, IfOk, IfErr, vec_len, vec_capacity, if◌then◌else◌};
+ghost use Rattle.std.specs.Option.{option_or, option_map_or, option_copied};
 ghost use Rattle.box_tree.specs.declared.edit.Edit.TheVariants.{Remove};
 ghost use Rattle.box_tree.specs.Contents.{tree_of, IsValid};
 ghost use Rattle.box_tree.specs.Edited.{IsId, first_fault, edited, answer_of};
 ghost use Rattle.box_tree.specs.Forest.{ids_in};
-ghost use Rattle.box_tree.specs.Planned.{ids_without, is_among, AreIdsOfTree, IsPlanned};
+ghost use Rattle.box_tree.specs.Kept.{node_with, with_children};
+ghost use Rattle.box_tree.specs.Nodes.{changed_at, HasSameRoom};
+ghost use Rattle.box_tree.specs.Planned.{ids_without, is_among, times_in, IsPlanned};
+ghost use Rattle.box_tree.specs.Taken.{ids_of, AreFrom, CanBePut, IsTaken, answer_by};
 ghost use Rattle.box_tree.specs.declared.plan.Plan.TheVariants.{RemoveNodes};
 
 use super::Page;
 use super::adds::give_children;
 use super::boxes::boxes_of_all;
-use crate::edit::{Done, Edit, EditFault};
+use crate::edit::{Edit, EditFault};
 use crate::node::{IdList, Node};
-use crate::plan::Plan;
+use crate::nodes::Nodes;
+use crate::plan::{Plan, Taken};
 use std::alloc::{AllocError, Global};
 use std::snapshot::Snapshot;
 
@@ -32,10 +34,12 @@ impl Page {
         };
         let parent = node.parent;
         let siblings = siblings_without(alloc, self.find(parent), id)?;
-        let gone = ids_of_tree(alloc, self, id)?;
+        let ids = ids_of_tree(alloc, self, id)?;
+        let gone = Vec::with_capacity(alloc, ids.as_slice().len())?;
         Ok(Plan::RemoveNodes {
             parent,
             siblings,
+            ids,
             gone,
         })
     }
@@ -45,41 +49,74 @@ impl Page {
         &mut self,
         parent: u32,
         siblings: IdList,
-        gone: IdList,
+        ids: &IdList,
+        gone: Vec<Node>,
         edit: &Snapshot<Edit>,
-    ) -> Done
-        requires { IsPlanned (RemoveNodes parent siblings gone) edit.now.value self.old }
+    ) -> Taken
+        requires { IsPlanned (RemoveNodes parent siblings ids.now gone) edit.now.value self.old }
         ensures contents { self.new.contents ≡ edited self.old.contents edit.now.value }
-        ensures answer { result ≡ answer_of self.old.contents edit.now.value }
+        ensures room { self.new.room ≡ self.old.room }
+        ensures taken { IsTaken result self.old.contents self.new.contents self.new.room }
+        ensures answer { answer_by result ≡ answer_of self.old.contents edit.now.value }
     {
-        if parent == 0 {
-            self.remove_root(parent, edit);
-        } else {
-            self.remove_child(parent, siblings, &gone, edit);
+        let siblings = give_children(&mut self.nodes, parent, siblings);
+        let mut nodes = gone;
+        take_all(&mut self.nodes, ids, &mut nodes);
+        self.frame.boxes -= boxes_of_all(&nodes);
+        self.frame.root = root_without(self.frame.root, parent);
+        Taken::Removed {
+            parent,
+            siblings,
+            nodes,
         }
-        Done::Done
     }
+}
 
-    // The root goes, and with it every node.
-    fn remove_root(&mut self, parent: u32, edit: &Snapshot<Edit>)
-        requires planned { (siblings : List ℕ) × (gone : List ℕ) × IsPlanned (RemoveNodes parent siblings gone) edit.now.value self.old }
-        requires root { parent ≡ 0 }
-        ensures { self.new.contents ≡ edited self.old.contents edit.now.value }
-    {
-        self.root = None;
-        self.boxes = 0;
-        self.nodes.clear();
+// The root once a node of this parent goes: none where that is the root.
+fn root_without(root: Option<u32>, parent: u32) -> Option<u32>
+    ensures { result ≡ (if parent == 0 then None else root) }
+{
+    if parent == 0 { None } else { root }
+}
+
+// Takes the nodes of these ids out, into a list with room for them.
+fn take_all(nodes: &mut Nodes, ids: &IdList, gone: &mut Vec<Node>)
+    requires there { (k : ℕ) → is_among ids.now k ≡ true → IsSome (node_with nodes.old.nodes k) }
+    requires distinct { (k : ℕ) → times_in k ids.now ≤ 1 }
+    requires none { gone.old.items ≡ [] }
+    requires room { vec_len gone.old + length ids.now ≤ vec_capacity gone.old }
+    ensures looked_up { (k : ℕ) → node_with nodes.new.nodes k ≡ (if is_among ids.now k then None else node_with nodes.old.nodes k) }
+    ensures count { length nodes.new.nodes + length ids.now ≡ length nodes.old.nodes }
+    ensures same_room { HasSameRoom nodes.old nodes.new }
+    ensures ids { ids_of gone.new.items ≡ ids.now }
+    ensures nodes { AreFrom (node_with nodes.old.nodes) gone.new.items }
+{
+    for id in ids.as_slice() {
+        gone.push_reserved(nodes.take(*id));
     }
+}
 
-    // A child goes, and with it all below it.
-    fn remove_child(&mut self, parent: u32, siblings: IdList, gone: &IdList, edit: &Snapshot<Edit>)
-        requires planned { IsPlanned (RemoveNodes parent siblings gone.now) edit.now.value self.old }
-        requires child { parent ≢ 0 }
-        ensures { self.new.contents ≡ edited self.old.contents edit.now.value }
-    {
-        give_children(&mut self.nodes, parent, siblings);
-        drop_nodes(&mut self.nodes, gone);
-        self.boxes = boxes_of_all(&self.nodes);
+// Puts nodes back that were taken out, and gives their parent these children.
+pub(super) fn put_removed(nodes: &mut Nodes, parent: u32, siblings: IdList, gone: Vec<Node>)
+    requires { CanBePut gone.items (node_with nodes.old.nodes) (length nodes.old.nodes) nodes.old.room (λ k. k < nodes.old.ids) }
+    ensures looked_up { (k : ℕ) → node_with nodes.new.nodes k ≡ changed_at parent (with_children siblings) k (option_or (node_with nodes.old.nodes k) (node_with gone.items k)) }
+    ensures count { length nodes.new.nodes ≡ length nodes.old.nodes + length gone.items }
+    ensures same_room { HasSameRoom nodes.old nodes.new }
+{
+    put_all(nodes, gone);
+    give_children(nodes, parent, siblings);
+}
+
+// Puts nodes beside the others.
+fn put_all(nodes: &mut Nodes, gone: Vec<Node>)
+    requires { CanBePut gone.items (node_with nodes.old.nodes) (length nodes.old.nodes) nodes.old.room (λ k. k < nodes.old.ids) }
+    ensures looked_up { (k : ℕ) → node_with nodes.new.nodes k ≡ option_or (node_with nodes.old.nodes k) (node_with gone.items k) }
+    ensures count { length nodes.new.nodes ≡ length nodes.old.nodes + length gone.items }
+    ensures same_room { HasSameRoom nodes.old nodes.new }
+{
+    let mut gone = gone;
+    while let Some(node) = gone.pop() {
+        nodes.put(node);
     }
 }
 
@@ -97,14 +134,13 @@ pub(super) fn siblings_without(
     }
 }
 
-// The ids of a node and of all below it, in an order in which they can be searched.
+// The ids of a node and of all below it, in tree order.
 pub(super) fn ids_of_tree(alloc: Global, page: &Page, id: u32) -> Result<IdList, AllocError>
-    ensures { IfOk result (AreIdsOfTree page.now.contents id) }
+    ensures { IfOk result (λ ids. ids ≡ ids_in (tree_of page.now.contents id)) }
 {
     page.validity();
     let mut ids = Vec::new(alloc);
     push_ids(page, id, &mut ids)?;
-    ids.sort_unstable();
     Ok(IdList(ids))
 }
 
@@ -121,12 +157,4 @@ fn push_ids(page: &Page, id: u32, ids: &mut Vec<u32>) -> Result<(), AllocError>
         push_ids(page, *child, ids)?;
     }
     Ok(())
-}
-
-// Drops the nodes whose ids are among these.
-fn drop_nodes(nodes: &mut Vec<Node>, gone: &IdList)
-    requires { IsNonDecreasing gone.now }
-    ensures { nodes.new.items ≡ filter (λ n. not (is_among gone.now n.id)) nodes.old.items }
-{
-    nodes.retain(|node| !gone.contains(node.id));
 }

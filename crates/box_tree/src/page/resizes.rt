@@ -4,10 +4,11 @@ ghost use Rattle.box_tree.specs.declared.edit.Edit.TheVariants.{Resize};
 ghost use Rattle.box_tree.specs.declared.plan.Plan.TheVariants.{ResizeViewport};
 ghost use Rattle.box_tree.specs.Edited.{IsResizeInRange, edited, answer_of};
 ghost use Rattle.box_tree.specs.Planned.{IsPlanned};
+ghost use Rattle.box_tree.specs.Taken.{IsTaken, answer_by};
 
 use super::Page;
-use crate::edit::{Done, Edit};
-use crate::plan::Plan;
+use crate::edit::Edit;
+use crate::plan::{Plan, Taken};
 use crate::scroll::clamp;
 use crate::viewport::Viewport;
 use fractions::Spot;
@@ -23,21 +24,15 @@ impl Page {
     }
 
     // Carries out a planned resize.
-    pub(super) fn resize(&mut self, w: i64, h: i64, max: Spot, edit: &Snapshot<Edit>) -> Done
+    pub(super) fn resize(&mut self, w: i64, h: i64, max: Spot, edit: &Snapshot<Edit>) -> Taken
         requires { IsPlanned (ResizeViewport w h max) edit.now.value self.old }
         ensures contents { self.new.contents ≡ edited self.old.contents edit.now.value }
-        ensures answer { result ≡ answer_of self.old.contents edit.now.value }
+        ensures room { self.new.room ≡ self.old.room }
+        ensures taken { IsTaken result self.old.contents self.new.contents self.new.room }
+        ensures answer { answer_by result ≡ answer_of self.old.contents edit.now.value }
     {
-        self.resize_viewport(w, h, max, edit);
-        Done::Done
-    }
-
-    // The viewport is resized.
-    fn resize_viewport(&mut self, w: i64, h: i64, max: Spot, edit: &Snapshot<Edit>)
-        requires { IsPlanned (ResizeViewport w h max) edit.now.value self.old }
-        ensures { self.new.contents ≡ edited self.old.contents edit.now.value }
-    {
-        let scroll = clamp(self.viewport.scroll, max);
-        self.viewport = Viewport { w, h, scroll, max };
+        let scroll = clamp(self.frame.viewport.scroll, max);
+        self.frame.viewport = Viewport { w, h, scroll, max };
+        Taken::Resized
     }
 }

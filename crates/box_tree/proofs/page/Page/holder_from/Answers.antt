@@ -1,5 +1,5 @@
 -- Each step looks at a node of the page, with the parent that was found for it.
-use Rattle.std.proofs.Common.{◌≡◌, Option, Bool, if◌then◌else◌, ap, sym, ◌∙◌}
+use Rattle.std.proofs.Common.{Option, Bool, if◌then◌else◌, ap, sym, ◌∙◌}
 use Rattle.std.specs.Option.{option_map, option_copied}
 use Rattle.box_tree.specs.declared.node.Node.{Node}
 use Rattle.box_tree.specs.declared.containing.Holder.TheVariants.{Node as HolderNode}

@@ -19,12 +19,13 @@ returns-clause-planned c =
       in_range = c.requires.range;
       faultless = c.requires.faultless;
       plan_is = record {
-        node_is = node_is-added page c.args.parent c.args.kind c.args.style.now c.args.boxes.now c.self.inside.next c.seat_below.result.depth c.new.result.items c.in_ok-from_pieces.field-0 c.in_ok-copy.field-0 valid may.present next_is c.new.ensures.items
+        node_is = node_is-added page c.args.parent c.args.kind c.args.style.now c.args.boxes.now c.self.inside.frame.next c.seat_below.result.depth c.new.result.items c.in_ok-from_pieces.field-0 c.in_ok-copy.field-0 valid may.present next_is c.new.ensures.items
             (c.seat_below.ensures.depth ∙ ap (λ o. option_map_or (λ (n : Node). n.depth) o 0) c.find-above.ensures) (c.in_ok-from_pieces.ensures ∙ c.deref.ensures.value ∙ c.boxes.view_is) c.in_ok-copy.ensures;
         siblings_are = c.in_ok-siblings.ensures
-            ∙ ap (λ o. option_map_or (λ (n : Node). insert n.children c.args.at c.self.inside.next) o []) c.find-above.ensures
+            ∙ ap (λ o. option_map_or (λ (n : Node). insert n.children c.args.at c.self.inside.frame.next) o []) c.find-above.ensures
             ∙ ap (λ id. option_map_or (λ (n : Node). insert n.children c.args.at id) (node_of page c.args.parent) []) next_is;
         room = c.requires.room;
+        placed = c.requires.placed;
       };
     }
 

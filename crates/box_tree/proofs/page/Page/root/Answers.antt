@@ -2,4 +2,4 @@ use Rattle.box_tree.proofs.KeptPages.{root_with_nodes}
 use Rattle.box_tree.proofs.page.Page.root.Goals as goal
 
 pub returns-clause-none : goal.returns-clause-none
-returns-clause-none c = rw (← c.self.view_is) (root_with_nodes _ c.self.inside.root c.self.invariant.kept.root)
+returns-clause-none c = rw (← c.self.view_is) (root_with_nodes _ c.self.inside.frame.root c.self.invariant.kept.root)

@@ -1,12 +1,23 @@
-use Rattle.std.proofs.Common.{sym, ap, ◌∙◌, ◌<◌, length, set, subst}
-use Rattle.std.proofs.lemmas.List.Edits.{map_over_more}
-use Rattle.box_tree.specs.declared.node.Node.{Node}
-use Rattle.box_tree.specs.Planned.{relocated_among}
-use Rattle.std.proofs.Common.{List}
+use Rattle.std.proofs.Common.{◌≤◌, ℕ, List, sym, ap, ◌∙◌, subst, refl}
+use Rattle.box_tree.specs.Kept.{node_with}
+use Rattle.box_tree.specs.Planned.{times_in, relocated_at}
+use Rattle.box_tree.proofs.ExchangeLemmas.{RelocatesUpTo, relocates_none, relocates_more, drop_at, drop_all}
 use Rattle.box_tree.proofs.page.moves.relocate_all.Goals as goal
 
-pub loop-node-preserved : goal.loop-node-preserved
-loop-node-preserved c =
-    let in_list : c.loop-node.node-index < length c.args.nodes.now.items = subst (λ (nodes : List Node). c.loop-node.node-index < length nodes) c.deref_mut-node-items.ensures.value c.loop-node-test.true in
-    ap (set c.loop-node.node-items c.loop-node.node-index) (c.relocate_among.ensures ∙ ap (relocated_among c.args.place c.args.ids.now) (sym c.node-item.is))
-    ∙ map_over_more (relocated_among c.args.place c.args.ids.now) c.args.nodes.now.items c.loop-node.node-items c.loop-node.node-index c.node-item.result in_list c.loop-node.invariant c.node-item.is
+pub loop-id-init : goal.loop-id-init
+loop-id-init c = relocates_none _ _ _ (λ k. subst (λ (ids : List ℕ). times_in k ids ≤ 1) (sym c.as_slice-id-items.ensures) (c.requires k))
+
+pub loop-id-preserved : goal.loop-id-preserved
+loop-id-preserved c = relocates_more _ _ _ _ _ _ _ (subst (RelocatesUpTo _ _ _ _) (drop_at _ _ _ 0 c.loop-id-test.true refl) c.loop-id.invariant) c.relocate_node.ensures
+
+pub returns-clause-looked_up : goal.returns-clause-looked_up
+returns-clause-looked_up c = λ k.
+    let rest_is = drop_all _ _ c.loop-id-test.false in
+    ap (λ rest. relocated_at c.args.place rest k (node_with c.loop-id.nodes.nodes k)) (sym rest_is) ∙ c.loop-id.invariant.looked_up k
+    ∙ ap (λ ids. relocated_at c.args.place ids k (node_with c.args.nodes.now.nodes k)) c.as_slice-id-items.ensures
+
+pub returns-clause-count : goal.returns-clause-count
+returns-clause-count c = c.loop-id.invariant.count
+
+pub returns-clause-same_room : goal.returns-clause-same_room
+returns-clause-same_room c = c.loop-id.invariant.same_room

@@ -1,7 +1,7 @@
--- The nodes before this one are relocated, and the others are as they were.
-use Rattle.std.proofs.Common.{◌≡◌, ◌++◌, map, take, drop}
-use Rattle.box_tree.specs.Planned.{relocated_among}
+-- The nodes of the ids before this one are relocated.
+use Rattle.std.proofs.Common.{drop}
+use Rattle.box_tree.proofs.ExchangeLemmas.{RelocatesUpTo}
 use Rattle.box_tree.proofs.page.moves.relocate_all.Given as goal
 
-abbrev pub invariant-loop-node : goal.invariant-loop-node
-invariant-loop-node l = l.node-items ≡ map (relocated_among l.place l.ids) (take l.node-index l.fn.nodes.items) ++ drop l.node-index l.fn.nodes.items
+abbrev pub invariant-loop-id : goal.invariant-loop-id
+invariant-loop-id l = RelocatesUpTo l.fn.nodes l.nodes l.place l.id-items (drop l.id-index l.id-items)

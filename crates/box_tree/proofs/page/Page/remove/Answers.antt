@@ -1,0 +1,59 @@
+-- The nodes that stay are those of the edited page, by the lemma on a planned remove.
+use Rattle.std.proofs.Common.{◌-◌, refl, sym, ap, ◌∙◌, subst, arith}
+use Rattle.box_tree.specs.declared.plan.Plan.TheVariants.{RemoveNodes}
+use Rattle.box_tree.specs.declared.plan.Taken.TheVariants.{Removed}
+use Rattle.box_tree.specs.Edited.{edited, answer_of}
+use Rattle.box_tree.specs.PageState.{PageState}
+use Rattle.box_tree.specs.Planned.{IsPlanned}
+use Rattle.box_tree.proofs.PlanLemmas.{state_of, Carries, taken_as}
+use Rattle.box_tree.proofs.RemoveLemmas.{CanTake, can_take, boxes_fit, boxes_few, planned-remove}
+use Rattle.box_tree.proofs.page.Page.remove.Goals as goal
+
+can : (c : goal.After-nodes-1) → CanTake c.self.inside.nodes c.self.inside.frame c.self.invariant c.args.parent c.args.siblings c.args.ids.now c.args.gone c.give_children-siblings.new.nodes
+can c = can_take c.self.inside.nodes c.self.inside.frame c.self.invariant c.args.parent c.args.siblings c.args.ids.now c.args.gone c.args.edit.now.value c.give_children-siblings.new.nodes
+    (subst (λ (page : PageState). IsPlanned (RemoveNodes c.args.parent c.args.siblings c.args.ids.now c.args.gone) c.args.edit.now.value page) (sym c.self.view_is) c.requires) c.give_children-siblings.ensures.changed
+
+pub take_all-requires-clause-there : goal.take_all-requires-clause-there
+take_all-requires-clause-there c = (can c).there
+
+pub take_all-requires-clause-distinct : goal.take_all-requires-clause-distinct
+take_all-requires-clause-distinct c = (can c).distinct
+
+pub take_all-requires-clause-none : goal.take_all-requires-clause-none
+take_all-requires-clause-none c = (can c).none
+
+pub take_all-requires-clause-room : goal.take_all-requires-clause-room
+take_all-requires-clause-room c = (can c).room
+
+pub boxes_of_all-requires : goal.boxes_of_all-requires
+boxes_of_all-requires c = boxes_few c.self.inside.nodes c.self.inside.frame c.self.invariant c.args.parent c.args.siblings c.args.ids.now c.args.gone c.give_children-siblings.new.nodes c.take_all.new.nodes c.take_all.new.gone
+    c.give_children-siblings.ensures.changed c.take_all.ensures.looked_up c.take_all.ensures.count c.take_all.ensures.same_room c.take_all.ensures.ids c.take_all.ensures.nodes
+    c.args.edit.now.value (subst (λ (page : PageState). IsPlanned (RemoveNodes c.args.parent c.args.siblings c.args.ids.now c.args.gone) c.args.edit.now.value page) (sym c.self.view_is) c.requires)
+
+pub overflow_sub-self : goal.overflow_sub-self
+overflow_sub-self c = omega (arith, c.boxes_of_all.ensures, boxes_fit c.self.inside.nodes c.self.inside.frame c.self.invariant c.args.parent c.args.siblings c.args.ids.now c.args.gone c.give_children-siblings.new.nodes c.take_all.new.nodes c.take_all.new.gone
+    c.give_children-siblings.ensures.changed c.take_all.ensures.looked_up c.take_all.ensures.count c.take_all.ensures.same_room c.take_all.ensures.ids c.take_all.ensures.nodes
+    c.args.edit.now.value (subst (λ (page : PageState). IsPlanned (RemoveNodes c.args.parent c.args.siblings c.args.ids.now c.args.gone) c.args.edit.now.value page) (sym c.self.view_is) c.requires))
+
+carried : (c : goal.After-self-2-1) → Carries c.take_all.new.nodes (record c.self.inside.frame { boxes = c.self.inside.frame.boxes - c.boxes_of_all.result; root = c.root_without-self-inside.result }) (Removed c.args.parent c.give_children-siblings.result c.take_all.new.gone) (state_of c.self.inside.nodes c.self.inside.frame) c.args.edit.now.value
+carried c =
+    planned-remove c.self.inside.nodes c.self.inside.frame c.self.invariant c.args.parent c.args.siblings c.args.ids.now c.args.gone c.give_children-siblings.new.nodes c.take_all.new.nodes c.take_all.new.gone
+    c.give_children-siblings.ensures.changed c.take_all.ensures.looked_up c.take_all.ensures.count c.take_all.ensures.same_room c.take_all.ensures.ids c.take_all.ensures.nodes
+    c.args.edit.now.value (record c.self.inside.frame { boxes = c.self.inside.frame.boxes - c.boxes_of_all.result; root = c.root_without-self-inside.result }) c.give_children-siblings.result
+    (subst (λ (page : PageState). IsPlanned (RemoveNodes c.args.parent c.args.siblings c.args.ids.now c.args.gone) c.args.edit.now.value page) (sym c.self.view_is) c.requires)
+    c.give_children-siblings.ensures.had (ap (λ k. c.self.inside.frame.boxes - k) c.boxes_of_all.ensures) c.root_without-self-inside.ensures refl refl
+
+pub invariant_of-self : goal.invariant_of-self
+invariant_of-self c = (carried c).means.counted
+
+pub returns-clause-contents : goal.returns-clause-contents
+returns-clause-contents c = (carried c).means.is ∙ ap (λ (page : PageState). edited page.contents c.args.edit.now.value) c.self.view_is
+
+pub returns-clause-room : goal.returns-clause-room
+returns-clause-room c = c.take_all.ensures.same_room.room ∙ c.give_children-siblings.ensures.changed.same_room.room ∙ ap (λ (page : PageState). page.room) c.self.view_is
+
+pub returns-clause-taken : goal.returns-clause-taken
+returns-clause-taken c = taken_as _ _ _ _ _ _ c.self.view_is (carried c)
+
+pub returns-clause-answer : goal.returns-clause-answer
+returns-clause-answer c = (carried c).answer_is ∙ ap (λ (page : PageState). answer_of page.contents c.args.edit.now.value) c.self.view_is
