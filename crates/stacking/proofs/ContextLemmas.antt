@@ -10,7 +10,7 @@ use Rattle.box_tree.specs.Containing.{parent_of, makes_context}
 use Rattle.box_tree.specs.Used.{is_real_context}
 use Rattle.box_tree.proofs.AddLemmas.{ancestors_below-none}
 use Rattle.box_tree.proofs.ContainingLemmas.{place_is, standing, ancestors-seen, above-seen}
-use Rattle.box_tree.proofs.PlanLemmas.{id-placed_in}
+use Rattle.box_tree.proofs.PlacedLemmas.{id-placed_in}
 use Rattle.stacking.specs.Contexts.{nearest_context, context_of}
 
 module _ (page : Contents) (valid : IsValid page) (id : ℕ) (node : Node) (seen : node_of page id ≡ Some node) where

@@ -13,7 +13,7 @@ use Rattle.box_tree.specs.Kept.{label_of}
 use Rattle.box_tree.proofs.PlacedLemmas.{trees_from, trees_from-all, IsChildAt, page-at_places}
 use Rattle.box_tree.proofs.SubtreeLemmas.{at_place, place, the_child, children_is, parent_above, IsAbove}
 use Rattle.box_tree.proofs.MoveLemmas.{each-placed}
-use Rattle.box_tree.proofs.PlanLemmas.{id-placed_in}
+use Rattle.box_tree.proofs.PlacedLemmas.{id-placed_in}
 use Rattle.box_tree.specs.Containing.{parent_of}
 use Rattle.stacking.specs.Painting.{Share, at, share_of, shares_of, shares_in}
 use Rattle.stacking.specs.OnPage.{of_node, gathered_in, gathered}
