@@ -23,12 +23,12 @@ elements_of-absent page x y item absent = ap (λ b. map (element_of page) (cond 
     by_place None is = refl
     by_place (Some p) is = absurd cc
 
--- an item is admitted where its row holds, and then it gives the element of its node
-pub elements_of-seen : (page : Contents) (x y : ℤ) (item : Item) (node : Node) (at : FinePoint) (inherited : Inherited) →
-    node_of page item.node ≡ Some node → local_point page item.node x y ≡ Some at → values page item.node ≡ Some inherited →
-    elements_of page x y (item ∷ []) ≡ (if part_admits (label_of node) inherited at item.part then element_as node.kind node.parent node.id ∷ [] else [])
+-- an item is admitted where its row holds at the local point, where there is one, and then it gives the element of its node
+pub elements_of-seen : (page : Contents) (x y : ℤ) (item : Item) (node : Node) (at : Option FinePoint) (inherited : Inherited) →
+    node_of page item.node ≡ Some node → local_point page item.node x y ≡ at → values page item.node ≡ Some inherited →
+    elements_of page x y (item ∷ []) ≡ (if option_map_or (λ a. part_admits (label_of node) inherited a item.part) at false then element_as node.kind node.parent node.id ∷ [] else [])
 elements_of-seen page x y item node at inherited seen at_is values_are =
-    ap (λ b. map (element_of page) (cond b (item ∷ []) [])) admitted ∙ by_test (part_admits (label_of node) inherited at item.part)
+    ap (λ b. map (element_of page) (cond b (item ∷ []) [])) admitted ∙ by_test (option_map_or (λ a. part_admits (label_of node) inherited a item.part) at false)
   where
     place_is : IsSeenAt page item.node node
     place_is = seen_at page item.node node seen
@@ -39,12 +39,12 @@ elements_of-seen page x y item node at inherited seen at_is values_are =
     inherited_is : values_below place_is.place.above place_is.place.label ≡ inherited
     inherited_is = let t = told in cc
 
-    admitted : admits page x y item ≡ part_admits (label_of node) inherited at item.part
+    admitted : admits page x y item ≡ option_map_or (λ a. part_admits (label_of node) inherited a item.part) at false
     admitted =
         ap (λ (o : Option Placed). option_map_or (λ p. option_map_or (λ a. part_admits p.label (values_below p.above p.label) a item.part) (local_point page item.node x y) false) o false) place_is.found
         ∙ ap (λ (o : Option FinePoint). option_map_or (λ a. part_admits place_is.place.label (values_below place_is.place.above place_is.place.label) a item.part) o false) at_is
-        ∙ ap (λ (v : Inherited). part_admits place_is.place.label v at item.part) inherited_is
-        ∙ ap (λ (l : Label). part_admits l inherited at item.part) (ap label_of place_is.node_is)
+        ∙ ap (λ (v : Inherited). option_map_or (λ a. part_admits place_is.place.label v a item.part) at false) inherited_is
+        ∙ ap (λ (l : Label). option_map_or (λ a. part_admits l inherited a item.part) at false) (ap label_of place_is.node_is)
 
     element_is : element_of page item ≡ element_as node.kind node.parent node.id
     element_is =

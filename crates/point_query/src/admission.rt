@@ -1,8 +1,9 @@
 // Which items are admitted at a point of the viewport, and what element each of them belongs to.
-ghost use Rattle.std.specs.Prelude.{◌≡◌, ◌≤◌, ◌*◌, ◌^◌, ◌+ℤ◌, ◌-ℤ◌, ◌∷◌, [], slice_get, unsigned_abs, false};
+ghost use Rattle.std.specs.Prelude.{◌≡◌, ◌≤◌, ◌*◌, ◌^◌, ◌+ℤ◌, ◌-ℤ◌, ◌∷◌, [], slice_get, unsigned_abs, IsTrue, false};
 ghost use Rattle.std.specs.Option.{option_map_or, option_to_list};
 ghost use Rattle.box_tree.specs.Contents.{IsWithin};
 ghost use Rattle.box_tree.specs.Kept.{label_of};
+ghost use Rattle.spaces.specs.Bound.{is_bounded};
 ghost use Rattle.point_query.specs.Elements.{elements_of, element_as, part_admits, box_holds, padding_box_holds, lies_between};
 
 use box_tree::{Item, Kind, Node, Page, Part, Piece};
@@ -20,8 +21,9 @@ pub(crate) fn admitted_element<L: Ledger>(
     y: i64,
     steps: &mut Steps<L>,
 ) -> Option<u32>
-    requires x { IsWithin 26 x }
-    requires y { IsWithin 26 y }
+    requires bounded { IsTrue (is_bounded page.now.contents) }
+    requires x { IsWithin 20 x }
+    requires y { IsWithin 20 y }
     ensures { option_to_list result ≡ elements_of page.now.contents x y (item ∷ []) }
 {
     if !page.has(item.node) {
@@ -30,7 +32,7 @@ pub(crate) fn admitted_element<L: Ledger>(
     let at = local_point(page, item.node, x, y, steps);
     let values = plain_values(page, item.node, steps);
     let node = page.node(item.node, steps);
-    if part_admits(node, &values, at, item.part) {
+    if admits_at(node, &values, at, item.part) {
         Some(element_of(node))
     } else {
         None
@@ -44,6 +46,16 @@ fn element_of(node: &Node) -> u32
     match node.kind {
         Kind::Block | Kind::Inline | Kind::InlineBlock | Kind::Image => node.id,
         Kind::Text => node.parent,
+    }
+}
+
+// Whether a part of a node is admitted at its local point, where it has one.
+fn admits_at(node: &Node, values: &Inherited, at: Option<FinePoint>, part: Part) -> bool
+    ensures { result ≡ option_map_or (λ a. part_admits (label_of node.now) values.now a part) at false }
+{
+    match at {
+        Some(at) => part_admits(node, values, at, part),
+        None => false,
     }
 }
 

@@ -7,21 +7,21 @@ use Rattle.point_query.specs.Elements.{element_as}
 use Rattle.point_query.proofs.AdmissionLemmas.{elements_of-seen}
 use Rattle.point_query.proofs.admission.admitted_element.Goals as goal
 
-pub returns-then-part_admits : goal.returns-then-part_admits
-returns-then-part_admits g c =
+pub returns-then-admits_at : goal.returns-then-admits_at
+returns-then-admits_at g c =
     let node = c.node-node.result.now in
     let x_is : to_z w64 (of_z w64 c.args.x) ≡ c.args.x = omega (arith, ints) in
     let y_is : to_z w64 (of_z w64 c.args.y) ≡ c.args.y = omega (arith, ints) in
     let at_is = rw (x_is, y_is) at c.local_point-at.ensures in
-    sym (elements_of-seen c.args.page.now.contents c.args.x c.args.y c.args.item node c.local_point-at.result c.plain_values-values.result c.node-node.ensures.node at_is c.plain_values-values.ensures
-    ∙ ap (λ (held : Bool). if held then element_as node.kind node.parent node.id ∷ [] else []) (sym c.part_admits.ensures ∙ c.if-part_admits.true)
+    sym (elements_of-seen c.args.page.now.contents c.args.x c.args.y c.args.item node c.local_point-at.result c.plain_values-values.result c.node-node.ensures.node (sym at_is) c.plain_values-values.ensures
+    ∙ ap (λ (held : Bool). if held then element_as node.kind node.parent node.id ∷ [] else []) (sym c.admits_at.ensures ∙ c.if-admits_at.true)
     ∙ ap (λ (element : ℕ). element ∷ []) (sym c.element_of.ensures))
 
-pub returns-else-part_admits : goal.returns-else-part_admits
-returns-else-part_admits g c =
+pub returns-else-admits_at : goal.returns-else-admits_at
+returns-else-admits_at g c =
     let node = c.node-node.result.now in
     let x_is : to_z w64 (of_z w64 c.args.x) ≡ c.args.x = omega (arith, ints) in
     let y_is : to_z w64 (of_z w64 c.args.y) ≡ c.args.y = omega (arith, ints) in
     let at_is = rw (x_is, y_is) at c.local_point-at.ensures in
-    sym (elements_of-seen c.args.page.now.contents c.args.x c.args.y c.args.item node c.local_point-at.result c.plain_values-values.result c.node-node.ensures.node at_is c.plain_values-values.ensures
-    ∙ ap (λ (held : Bool). if held then element_as node.kind node.parent node.id ∷ [] else []) (sym c.part_admits.ensures ∙ c.if-part_admits.false))
+    sym (elements_of-seen c.args.page.now.contents c.args.x c.args.y c.args.item node c.local_point-at.result c.plain_values-values.result c.node-node.ensures.node (sym at_is) c.plain_values-values.ensures
+    ∙ ap (λ (held : Bool). if held then element_as node.kind node.parent node.id ∷ [] else []) (sym c.admits_at.ensures ∙ c.if-admits_at.false))
