@@ -4,7 +4,7 @@ use Rattle.std.specs.Option.{option_map, option_map_or}
 use Rattle.box_tree.specs.declared.node.Node.{Node}
 use Rattle.box_tree.specs.declared.edit.Done.TheVariants.{Done as EditDone}
 use Rattle.box_tree.specs.declared.edit.Edit.{Edit}
-use Rattle.box_tree.specs.declared.edit.Edit.TheVariants.{Place, Restyle}
+use Rattle.box_tree.specs.declared.edit.Edit.TheVariants.{Place, Restyle, Scroll}
 use Rattle.box_tree.specs.declared.plan.Change.{Change}
 use Rattle.box_tree.specs.declared.plan.Frame.{Frame}
 use Rattle.box_tree.specs.declared.plan.Plan.TheVariants.{ChangeNode}
@@ -12,7 +12,7 @@ use Rattle.box_tree.specs.declared.plan.Taken.TheVariants.{Changed}
 use Rattle.box_tree.specs.Change.{changed, given_up}
 use Rattle.box_tree.specs.Contents.{Contents, node_of, has_id}
 use Rattle.box_tree.specs.Counted.{IsCounted}
-use Rattle.box_tree.specs.Edited.{edited, answer_of, relabelled, laid_out, restyled}
+use Rattle.box_tree.specs.Edited.{edited, answer_of, relabelled, laid_out, restyled, scrolled_node}
 use Rattle.box_tree.specs.Forest.{Label}
 use Rattle.box_tree.specs.Kept.{node_with, label_of, with_label, IsKept}
 use Rattle.box_tree.specs.Nodes.{NodesState, changed_at, ChangesAt}
@@ -22,6 +22,7 @@ use Rattle.box_tree.proofs.KeptLemmas.{changed-here, change-back}
 use Rattle.box_tree.proofs.PlaceLemmas.{may_place, kept-placed, node_count-relabelled}
 use Rattle.box_tree.proofs.PlanLemmas.{state_of, Carries, carries}
 use Rattle.box_tree.proofs.RestyleLemmas.{may_restyle, kept-restyled}
+use Rattle.box_tree.proofs.ScrollLemmas.{may_scroll, kept-scrolled}
 
 module _ (nodes : NodesState) (frame : Frame) (counted : IsCounted nodes frame.root frame.boxes (state_of nodes frame).contents) (id : ℕ) (change : Change) where
   abbrev page : Contents
@@ -43,6 +44,7 @@ module _ (nodes : NodesState) (frame : Frame) (counted : IsCounted nodes frame.r
   pub has_boxes : (edit : Edit) → IsPlanned (ChangeNode id change) edit (state_of nodes frame) → HasBoxes
   has_boxes (Place id' anchor boxes max) planned = boxes_in id' planned.plan_is.id_is (may_place page id' anchor boxes max planned.faultless).there (laid_out anchor boxes max)
   has_boxes (Restyle id' style) planned = boxes_in id' planned.plan_is.id_is (may_restyle page id' style planned.faultless).there (restyled style)
+  has_boxes (Scroll id' x y) planned = boxes_in id' planned.plan_is.id_is (may_scroll page id' x y planned.faultless).there (scrolled_node x y)
   has_boxes edit planned = absurd planned.plan_is
 
   module _ (new : NodesState) (frame' : Frame) (had : Change) (changes : ChangesAt nodes new id (with_label (changed change))) (had_is : had ≡ option_map_or (λ (n : Node). given_up change (label_of n)) (node_with nodes.nodes id) change)
@@ -86,4 +88,8 @@ module _ (nodes : NodesState) (frame : Frame) (counted : IsCounted nodes frame.r
         let may = may_restyle page id' style planned.faultless in
         carried (Restyle id' style) id' (restyled style) planned.plan_is may.there refl refl (λ n. refl)
         (kept-restyled page id' style frame.root (node_with nodes.nodes) (node_with new.nodes) (with_label (changed change)) planned.in_range may counted.kept planned.plan_is.change_is)
+    planned-change (Scroll id' x y) planned =
+        let may = may_scroll page id' x y planned.faultless in
+        carried (Scroll id' x y) id' (scrolled_node x y) planned.plan_is may.there refl refl (λ n. refl)
+        (kept-scrolled page id' x y frame.root (node_with nodes.nodes) (node_with new.nodes) (with_label (changed change)) counted.kept planned.plan_is.change_is)
     planned-change edit planned = absurd planned.plan_is

@@ -10,8 +10,8 @@ use Rattle.box_tree.specs.Forest.{Label, Forest, Placed}
 use Rattle.box_tree.specs.Contents.{Contents, placed_of, node_of, node_at, parent_id, IsValid}
 use Rattle.box_tree.specs.Edited.{ancestors_below}
 use Rattle.box_tree.specs.Kept.{label_of}
-use Rattle.box_tree.specs.Used.{used_position, is_real_context}
-use Rattle.box_tree.specs.Containing.{parent_of, may_hold, outermost, holder_among, holders_among, Standing, containing_block_chain, containing_block, makes_context}
+use Rattle.box_tree.specs.Used.{used_position, is_clipping, is_real_context}
+use Rattle.box_tree.specs.Containing.{parent_of, may_hold, outermost, holder_among, holders_among, Standing, containing_block_chain, containing_block, makes_context, clips}
 use Rattle.box_tree.proofs.AddLemmas.{ancestors_below-none}
 use Rattle.box_tree.proofs.PlacedLemmas.{id-placed_in, page-at_places, IsSeenAt, seen_at}
 use Rattle.box_tree.proofs.SubtreeLemmas.{parent_above}
@@ -106,6 +106,12 @@ module _ (page : Contents) (valid : IsValid page) (id : ℕ) (node : Node) (seen
       ap (λ (o : Option Placed). option_map_or (λ p. is_real_context (parent_of p.above) p.label) o false) place_is.found
       ∙ ap (λ (o : Option Label). is_real_context o standing.label) (sym parent-seen)
       ∙ ap (λ (l : Label). is_real_context (option_map label_of (node_of page node.parent)) l) (sym label-seen)
+
+  pub clips-seen : clips page id ≡ is_clipping (option_map label_of (node_of page node.parent)) (label_of node)
+  clips-seen =
+      ap (λ (o : Option Placed). option_map_or (λ p. is_clipping (parent_of p.above) p.label) o false) place_is.found
+      ∙ ap (λ (o : Option Label). is_clipping o standing.label) (sym parent-seen)
+      ∙ ap (λ (l : Label). is_clipping (option_map label_of (node_of page node.parent)) l) (sym label-seen)
 
 -- a containing block and a chain of them, of what has so many ancestors: the chain goes on with that of the containing block
 pub record IsHeld (page : Contents) (count : ℕ) (by : Holder) (chain : List Standing) : Type 0 where

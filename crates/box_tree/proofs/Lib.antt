@@ -18,6 +18,7 @@ pub mod PlaceLemmas
 pub mod BoxLemmas
 pub mod ContainingLemmas
 pub mod RestyleLemmas
+pub mod ScrollLemmas
 pub mod ChangeLemmas
 pub mod RevertLemmas
 pub mod ExchangeLemmas

@@ -13,7 +13,7 @@ use Rattle.box_tree.specs.declared.edit.Edit.{Edit}
 use Rattle.box_tree.specs.declared.edit.Edit.TheVariants.{Place, Resize}
 use Rattle.box_tree.specs.declared.plan.Frame.{Frame}
 use Rattle.box_tree.specs.declared.plan.Plan.TheVariants.{ResizeViewport}
-use Rattle.box_tree.specs.declared.plan.Taken.TheVariants.{Resized}
+use Rattle.box_tree.specs.declared.plan.Taken.TheVariants.{Untouched}
 use Rattle.box_tree.specs.Forest.{Label, Forest, End, Grow, roots_of, node_count, height_of, occurrences, Placed, placed_in, EachNode}
 use Rattle.box_tree.specs.Contents.{Contents, node_at, node_of, placed_of, has_id, parent_id, IsMaxInRange, IsScrolled, IsGiven, IsSuited, IsValid}
 use Rattle.box_tree.specs.Counted.{IsCounted}
@@ -233,7 +233,7 @@ kept-placed page id anchor boxes max first look look' make range may kept makes 
 
 -- a planned resize: the nodes stay
 pub planned-resize : (nodes : NodesState) (frame frame' : Frame) (w h : ℤ) (max : Spot) (edit : Edit) → IsCounted nodes frame.root frame.boxes (state_of nodes frame).contents → IsPlanned (ResizeViewport w h max) edit (state_of nodes frame) →
-    frame'.boxes ≡ frame.boxes → frame'.root ≡ frame.root → frame'.viewport ≡ resized w h max frame.viewport → frame'.next ≡ frame.next → Carries nodes frame' Resized (state_of nodes frame) edit
+    frame'.boxes ≡ frame.boxes → frame'.root ≡ frame.root → frame'.viewport ≡ resized w h max frame.viewport → frame'.next ≡ frame.next → Carries nodes frame' Untouched (state_of nodes frame) edit
 planned-resize nodes frame frame' w' h' max' (Resize w h max) counted planned boxes_is root_is viewport_is next_is =
     let page = (state_of nodes frame).contents in
     let plan = planned.plan_is in
@@ -251,7 +251,7 @@ planned-resize nodes frame frame' w' h' max' (Resize w h max) counted planned bo
       next = kept.valid.next;
       viewport = record { width = range.width; height = range.height; scroll = scrolled-clamped max page.viewport.scroll range.max_in_range };
     } in
-    carries nodes frame' Resized (state_of nodes frame) (Resize w h max)
+    carries nodes frame' Untouched (state_of nodes frame) (Resize w h max)
     (rw root_is (record { valid = valid; looked_up = kept.looked_up; root = kept.root }))
     (record {
       count = counted.count;

@@ -5,7 +5,7 @@ use Rattle.box_tree.specs.declared.edit.Edit.{Edit}
 use Rattle.box_tree.specs.declared.node.Node.{Node}
 use Rattle.box_tree.specs.declared.plan.Frame.{Frame}
 use Rattle.box_tree.specs.declared.plan.Taken.{Taken}
-use Rattle.box_tree.specs.declared.plan.Taken.TheVariants.{Added, Removed, Moved, Changed, Resized}
+use Rattle.box_tree.specs.declared.plan.Taken.TheVariants.{Added, Removed, Moved, Changed, Untouched}
 use Rattle.box_tree.specs.Contents.{Contents, node_of, IsValid}
 use Rattle.box_tree.specs.Edited.{answer_of}
 use Rattle.box_tree.specs.Counted.{IsCounted}
@@ -45,7 +45,7 @@ can_go_back_so (Moved place siblings children ids) look look' count count' room 
   each = λ k among n found. can.each k among n (sym (same k) ∙ found);
 }
 can_go_back_so (Changed id change) look look' count count' room room' HasPlace HasPlace' same counts rooms places can = tt
-can_go_back_so Resized look look' count count' room room' HasPlace HasPlace' same counts rooms places can = tt
+can_go_back_so Untouched look look' count count' room room' HasPlace HasPlace' same counts rooms places can = tt
 
 module _ (nodes : NodesState) (frame : Frame) (counted : IsCounted nodes frame.root frame.boxes (state_of nodes frame).contents) (taken : Taken) (frame' : Frame) (edit : Edit) (before after : PageState) (undo : IsUndo taken frame' edit before after)
     (after_is : after.contents ≡ (state_of nodes frame).contents) (room_is : after.room ≡ nodes.room) where

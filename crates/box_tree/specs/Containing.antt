@@ -7,7 +7,7 @@ use Rattle.box_tree.specs.declared.containing.Holder.{Holder}
 use Rattle.box_tree.specs.declared.containing.Holder.TheVariants.{Node as HolderNode, Initial, Viewport}
 use Rattle.box_tree.specs.Forest.{Label}
 use Rattle.box_tree.specs.Contents.{Contents, placed_of}
-use Rattle.box_tree.specs.Used.{used_position, is_block_container, is_positioned, is_transformed, is_real_context}
+use Rattle.box_tree.specs.Used.{used_position, is_block_container, is_positioned, is_transformed, is_clipping, is_real_context}
 
 -- the parent of a node with these ancestors, nearest first
 abbrev pub parent_of : List Label → Option Label
@@ -60,3 +60,7 @@ containing_block page id = option_map_or (λ p. holder_among (used_position p.la
 -- whether the node of an id is a real stacking context
 abbrev pub makes_context : Contents → ℕ → Bool
 makes_context page id = option_map_or (λ p. is_real_context (parent_of p.above) p.label) (placed_of page id) false
+
+-- whether the node of an id clips what it holds
+abbrev pub clips : Contents → ℕ → Bool
+clips page id = option_map_or (λ p. is_clipping (parent_of p.above) p.label) (placed_of page id) false

@@ -9,15 +9,15 @@ use Rattle.computed_style.specs.declared.style.Style.{Style}
 use Rattle.box_tree.specs.declared.piece.Piece.{Piece}
 use Rattle.box_tree.specs.declared.viewport.Viewport.{Viewport}
 use Rattle.box_tree.specs.declared.edit.Edit.{Edit}
-use Rattle.box_tree.specs.declared.edit.Edit.TheVariants.{Add, Remove, Move, Place, Restyle, Resize}
+use Rattle.box_tree.specs.declared.edit.Edit.TheVariants.{Add, Remove, Move, Place, Restyle, Scroll, Resize, ScrollView}
 use Rattle.box_tree.specs.declared.edit.Done.{Done}
 use Rattle.box_tree.specs.declared.edit.Done.TheVariants.{Node as NodeAdded, Done as EditDone}
 use Rattle.box_tree.specs.declared.edit.EditFault.{EditFault}
 use Rattle.box_tree.specs.declared.edit.EditFault.TheVariants as fault
 use Rattle.box_tree.specs.Forest.{Label, Forest, End, Grow, roots_of, node_count, height_of, occurrences}
-use Rattle.box_tree.specs.Suits.{has_no_parent, kind_suits, box_count_suits, takes_place, takes_style, node_suits}
+use Rattle.box_tree.specs.Suits.{has_no_parent, kind_suits, box_count_suits, takes_place, takes_style, takes_scroll, node_suits}
 use Rattle.box_tree.specs.Totals.{box_count}
-use Rattle.box_tree.specs.Contents.{Contents, placed_of, tree_of, has_id, depth_below, new_label, IsBoxInRange, IsSpotInRange, IsMaxInRange}
+use Rattle.box_tree.specs.Contents.{Contents, placed_of, tree_of, has_id, depth_below, new_label, IsWithin, IsBoxInRange, IsSpotInRange, IsMaxInRange}
 
 -- an id is from 1 to 4,294,967,295
 abbrev pub IsId : ℕ → Type 0
@@ -40,11 +40,22 @@ pub record IsRestyleInRange (id : ℕ) (style : Style) : Type 0 where
   pub id_in_range : IsId id
   pub style_in_range : IsStyleInRange style
 
+-- the numbers of a scroll are within their limits
+pub record IsScrollInRange (id : ℕ) (x y : ℤ) : Type 0 where
+  pub id_in_range : IsId id
+  pub across : IsWithin 26 x
+  pub down : IsWithin 26 y
+
 -- the numbers of a resize are within their limits
 pub record IsResizeInRange (w h : ℤ) (max : Spot) : Type 0 where
   pub width : (pos 1 ≤ℤ w) × (w ≤ℤ pos (2 ^ 20))
   pub height : (pos 1 ≤ℤ h) × (h ≤ℤ pos (2 ^ 20))
   pub max_in_range : IsMaxInRange max
+
+-- the numbers of a scroll of the viewport are within their limits
+pub record IsScrollViewInRange (x y : ℤ) : Type 0 where
+  pub across : IsWithin 26 x
+  pub down : IsWithin 26 y
 
 -- the numbers of an edit are within their limits
 abbrev pub IsInRange : Edit → Type 0
@@ -53,7 +64,9 @@ IsInRange (Remove id) = IsId id
 IsInRange (Move id parent at) = IsId id
 IsInRange (Place id anchor boxes max) = IsPlaceInRange id anchor boxes max
 IsInRange (Restyle id style) = IsRestyleInRange id style
+IsInRange (Scroll id x y) = IsScrollInRange id x y
 IsInRange (Resize w h max) = IsResizeInRange w h max
+IsInRange (ScrollView x y) = IsScrollViewInRange x y
 
 -- the trees with one more at place `at`
 abbrev pub put_in : ℕ → Label → Forest → Forest → Forest
@@ -96,6 +109,10 @@ clamped most x = int_max (pos 0) (int_min x most)
 abbrev pub clamped_to : Spot → Spot → Spot
 clamped_to max scroll = record { x = clamped max.x scroll.x; y = clamped max.y scroll.y }
 
+-- the scroll to a position: each coordinate is clamped between 0 and the greatest one (CSSOM View, `scroll()`)
+abbrev pub scroll_to : (max : Spot) → (x y : ℤ) → Spot
+scroll_to max x y = clamped_to max (record { x = x; y = y })
+
 -- a node with this anchor, these boxes and this greatest scroll, to which its scroll is clamped
 abbrev pub laid_out : Spot → List Piece → Spot → Label → Label
 laid_out anchor boxes max n = record n { anchor = anchor; boxes = boxes; scroll = clamped_to max n.scroll; max = max }
@@ -104,9 +121,17 @@ laid_out anchor boxes max n = record n { anchor = anchor; boxes = boxes; scroll 
 abbrev pub restyled : Style → Label → Label
 restyled style n = record n { style = style }
 
+-- a node that is scrolled to a position, whether it clips or not
+abbrev pub scrolled_node : ℤ → ℤ → Label → Label
+scrolled_node x y n = record n { scroll = scroll_to n.max x y }
+
 -- a viewport of these sides and this greatest scroll, to which its scroll is clamped
 abbrev pub resized : ℤ → ℤ → Spot → Viewport → Viewport
 resized w h max v = record { w = w; h = h; scroll = clamped_to max v.scroll; max = max }
+
+-- a viewport that is scrolled to a position
+abbrev pub scrolled_view : ℤ → ℤ → Viewport → Viewport
+scrolled_view x y v = record v { scroll = scroll_to v.max x y }
 
 -- the page that an edit without a fault leaves
 abbrev pub edited : Contents → Edit → Contents
@@ -118,7 +143,9 @@ edited page (Remove id) = record page { tree = taken_out id page.tree }
 edited page (Move id parent at) = record page { tree = moved page id parent at }
 edited page (Place id anchor boxes max) = record page { tree = relabelled id (laid_out anchor boxes max) page.tree }
 edited page (Restyle id style) = record page { tree = relabelled id (restyled style) page.tree }
+edited page (Scroll id x y) = record page { tree = relabelled id (scrolled_node x y) page.tree }
 edited page (Resize w h max) = record page { viewport = resized w h max page.viewport }
+edited page (ScrollView x y) = record page { viewport = scrolled_view x y page.viewport }
 
 -- what it answers then
 abbrev pub answer_of : Contents → Edit → Done
@@ -127,7 +154,9 @@ answer_of page (Remove id) = EditDone
 answer_of page (Move id parent at) = EditDone
 answer_of page (Place id anchor boxes max) = EditDone
 answer_of page (Restyle id style) = EditDone
+answer_of page (Scroll id x y) = EditDone
 answer_of page (Resize w h max) = EditDone
+answer_of page (ScrollView x y) = EditDone
 
 -- the ancestors that a child of `parent` has, from that node on up
 abbrev pub ancestors_below : Contents → ℕ → List Label
@@ -171,6 +200,10 @@ kind_may_be_placed page id count =
 abbrev pub kind_takes_style : Contents → ℕ → Bool
 kind_takes_style page id = option_map_or (λ p. takes_style p.label.kind) (placed_of page id) false
 
+-- whether the node `id` has a kind that may be scrolled
+abbrev pub kind_takes_scroll : Contents → ℕ → Bool
+kind_takes_scroll page id = option_map_or (λ p. takes_scroll p.label.kind) (placed_of page id) false
+
 -- the table of faults
 abbrev pub faults_of : Contents → Edit → List (Bool × EditFault)
 faults_of page (Add parent at kind boxes style) =
@@ -199,7 +232,12 @@ faults_of page (Restyle id style) =
     (not (has_id page id), fault.Absent)
     ∷ (not (kind_takes_style page id), fault.Kind)
     ∷ []
+faults_of page (Scroll id x y) =
+    (not (has_id page id), fault.Absent)
+    ∷ (not (kind_takes_scroll page id), fault.Kind)
+    ∷ []
 faults_of page (Resize w h max) = []
+faults_of page (ScrollView x y) = []
 
 -- the first fault of an edit on a page, where it has one
 abbrev pub first_fault : Contents → Edit → Option EditFault
@@ -214,6 +252,7 @@ fault_number fault.Cycle = Some 7
 fault_number fault.Place = Some 8
 fault_number fault.Deep = Some 9
 fault_number fault.Full = Some 10
+fault_number fault.Bound = Some 11
 fault_number fault.OutOfMemory = None
 
 -- the name of a fault in replies, as its bytes
@@ -225,4 +264,5 @@ fault_name fault.Cycle = codes "cycle"
 fault_name fault.Place = codes "place"
 fault_name fault.Deep = codes "deep"
 fault_name fault.Full = codes "full"
+fault_name fault.Bound = codes "bound"
 fault_name fault.OutOfMemory = codes "memory"

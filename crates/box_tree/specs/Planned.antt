@@ -9,15 +9,15 @@ use Rattle.box_tree.specs.declared.kind.Kind.{Kind}
 use Rattle.box_tree.specs.declared.piece.Piece.{Piece}
 use Rattle.box_tree.specs.declared.node.Node.{Node}
 use Rattle.box_tree.specs.declared.edit.Edit.{Edit}
-use Rattle.box_tree.specs.declared.edit.Edit.TheVariants.{Add, Remove, Move, Place, Restyle, Resize}
+use Rattle.box_tree.specs.declared.edit.Edit.TheVariants.{Add, Remove, Move, Place, Restyle, Scroll, Resize, ScrollView}
 use Rattle.box_tree.specs.declared.plan.Plan.{Plan}
 use Rattle.box_tree.specs.declared.plan.Change.{Change}
 use Rattle.box_tree.specs.declared.plan.Relocation.{Relocation}
-use Rattle.box_tree.specs.declared.plan.Plan.TheVariants.{AddNode, RemoveNodes, MoveNodes, ChangeNode, ResizeViewport}
+use Rattle.box_tree.specs.declared.plan.Plan.TheVariants.{AddNode, RemoveNodes, MoveNodes, ChangeNode, ResizeViewport, ScrollViewport}
 use Rattle.box_tree.specs.Forest.{Label, End, node_count, ids_in}
 use Rattle.box_tree.specs.Contents.{Contents, depth_below, new_label, node_at, node_of, tree_of}
 use Rattle.box_tree.specs.Change.{changed}
-use Rattle.box_tree.specs.Edited.{IsInRange, first_fault, ancestors_below, laid_out, restyled}
+use Rattle.box_tree.specs.Edited.{IsInRange, first_fault, ancestors_below, laid_out, restyled, scrolled_node}
 use Rattle.box_tree.specs.Kept.{with_children, with_label}
 use Rattle.box_tree.specs.Nodes.{changed_at}
 use Rattle.box_tree.specs.PageState.{PageState}
@@ -113,6 +113,11 @@ pub record IsChangePlan (page : Contents) (id : ℕ) (relabel : Label → Label)
   pub id_is : id' ≡ id
   pub change_is : option_map (with_label (changed change)) (node_of page id) ≡ option_map (with_label relabel) (node_of page id)
 
+-- where the viewport is scrolled to
+pub record IsScrollViewPlan (x y : ℤ) (to : Spot) : Type 0 where
+  pub across_is : to.x ≡ x
+  pub down_is : to.y ≡ y
+
 -- the sides of the viewport and its greatest scroll
 pub record IsResizePlan (w h : ℤ) (max : Spot) (w' h' : ℤ) (max' : Spot) : Type 0 where
   pub width_is : w' ≡ w
@@ -126,7 +131,9 @@ IsPlanFor (RemoveNodes parent siblings ids gone) (Remove id) page = IsRemovePlan
 IsPlanFor (MoveNodes place siblings children ids) (Move id parent at) page = IsMovePlan page.contents id parent at place siblings children ids
 IsPlanFor (ChangeNode id' change) (Place id anchor boxes max) page = IsChangePlan page.contents id (laid_out anchor boxes max) id' change
 IsPlanFor (ChangeNode id' change) (Restyle id style) page = IsChangePlan page.contents id (restyled style) id' change
+IsPlanFor (ChangeNode id' change) (Scroll id x y) page = IsChangePlan page.contents id (scrolled_node x y) id' change
 IsPlanFor (ResizeViewport w' h' max') (Resize w h max) page = IsResizePlan w h max w' h' max'
+IsPlanFor (ScrollViewport to) (ScrollView x y) page = IsScrollViewPlan x y to
 IsPlanFor plan edit page = ⊥
 
 -- an edit that may be carried out, and its plan

@@ -77,6 +77,14 @@ takes_style InlineBlock = true
 takes_style Image = true
 takes_style Text = false
 
+-- whether a node of a kind may be scrolled
+abbrev pub takes_scroll : Kind → Bool
+takes_scroll Block = true
+takes_scroll Inline = true
+takes_scroll InlineBlock = true
+takes_scroll Image = false
+takes_scroll Text = false
+
 -- with which style a node of a kind may be: one that takes no style has the empty one
 abbrev pub style_suits : Kind → Style → Bool
 style_suits kind style = takes_style kind || is_empty style

@@ -6,7 +6,7 @@ use Rattle.box_tree.specs.declared.edit.Done.{Done}
 use Rattle.box_tree.specs.declared.edit.Done.TheVariants.{Node as NodeAdded, Done as EditDone}
 use Rattle.box_tree.specs.declared.plan.Frame.{Frame}
 use Rattle.box_tree.specs.declared.plan.Taken.{Taken}
-use Rattle.box_tree.specs.declared.plan.Taken.TheVariants.{Added, Removed, Moved, Changed, Resized}
+use Rattle.box_tree.specs.declared.plan.Taken.TheVariants.{Added, Removed, Moved, Changed, Untouched}
 use Rattle.box_tree.specs.Change.{changed}
 use Rattle.box_tree.specs.Contents.{Contents, node_of}
 use Rattle.box_tree.specs.Forest.{roots_of, node_count}
@@ -21,7 +21,7 @@ back_at (Added id parent siblings) k o = if id == k then None else changed_at pa
 back_at (Removed parent siblings nodes) k o = changed_at parent (with_children siblings) k (option_or o (node_with nodes.items k))
 back_at (Moved place siblings children ids) k o = moved_at place siblings children ids k o
 back_at (Changed id change) k o = changed_at id (with_label (changed change)) k o
-back_at Resized k o = o
+back_at Untouched k o = o
 
 -- how many nodes there are before an edit, by how many there are after it
 abbrev pub count_back : Taken → ℕ → ℕ
@@ -29,7 +29,7 @@ count_back (Added id parent siblings) count = count - 1
 count_back (Removed parent siblings nodes) count = count + length nodes.items
 count_back (Moved place siblings children ids) count = count
 count_back (Changed id change) count = count
-count_back Resized count = count
+count_back Untouched count = count
 
 -- the ids of nodes
 abbrev pub ids_of : List Node → List ℕ
@@ -54,7 +54,7 @@ CanGoBack (Added id parent siblings) look count room HasPlace = IsSome (look id)
 CanGoBack (Removed parent siblings nodes) look count room HasPlace = CanBePut nodes.items look count room HasPlace
 CanGoBack (Moved place siblings children ids) look count room HasPlace = MayRelocateAll place ids look
 CanGoBack (Changed id change) look count room HasPlace = Unit {0}
-CanGoBack Resized look count room HasPlace = Unit {0}
+CanGoBack Untouched look count room HasPlace = Unit {0}
 
 -- what a page is beside its nodes
 pub record IsFrame (frame : Frame) (page : Contents) : Type 0 where
@@ -77,4 +77,4 @@ answer_by (Added id parent siblings) = NodeAdded id
 answer_by (Removed parent siblings nodes) = EditDone
 answer_by (Moved place siblings children ids) = EditDone
 answer_by (Changed id change) = EditDone
-answer_by Resized = EditDone
+answer_by Untouched = EditDone

@@ -1,5 +1,7 @@
 -- The used values of a node: each sentence is a function of the parent, none for the root, and of the node itself.
 use Rattle.std.specs.Prelude.{Option, None, Some, Bool, true, false, not, ◌&&◌, ◌||◌, if◌then◌else◌, nat_lt, length, is_some, unwrap_or, ℤ, pos}
+use Rattle.computed_style.specs.declared.style.Overflow.{Overflow}
+use Rattle.computed_style.specs.declared.style.Overflow.TheVariants.{Visible, Auto, Clip}
 use Rattle.computed_style.specs.declared.style.Position.{Position}
 use Rattle.computed_style.specs.declared.style.Position.TheVariants.{Static, Relative, Absolute, Fixed}
 use Rattle.box_tree.specs.declared.kind.Kind.{Kind}
@@ -75,6 +77,23 @@ is_atomic parent n = is_atomic_as n.kind && not (is_block_level parent n)
 -- a node is transformed where it is block level or atomic and its transform isn't none (CSS Transforms 1, 2 and 3)
 abbrev pub is_transformed : Option Label → Label → Bool
 is_transformed parent n = (is_block_level parent n || is_atomic parent n) && nat_lt 0 (length n.style.transform)
+
+-- clipping by the overflow (CSS 2.2, 11.1.1), which is at first visible
+abbrev pub cuts_off : Option Overflow → Bool
+cuts_off None = false
+cuts_off (Some Visible) = false
+cuts_off (Some Auto) = true
+cuts_off (Some Clip) = true
+
+-- whether a node has a box
+abbrev pub has_box : Label → Bool
+has_box n = nat_lt 0 (length n.boxes)
+
+-- a node clips where its overflow isn't visible, it has a box, and it is a block container other than the root
+-- (CSS 2.2, 11.1.1; the overflow of the root is that of the viewport)
+abbrev pub is_clipping : Option Label → Label → Bool
+is_clipping None n = false
+is_clipping (Some parent) n = cuts_off n.style.overflow && (has_box n && is_block_container (Some parent) n)
 
 -- not static (CSS 2.2, 9.3.2)
 abbrev pub takes_offsets : Position → Bool

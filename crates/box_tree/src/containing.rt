@@ -2,14 +2,14 @@
 ghost use Rattle.std.specs.Prelude.{◌≡◌, IsTrue};
 ghost use Rattle.std.specs.Option.{option_map, option_copied};
 ghost use Rattle.box_tree.specs.Contents.{has_id};
-ghost use Rattle.box_tree.specs.Containing.{may_hold, outermost, holder_among, containing_block, makes_context};
+ghost use Rattle.box_tree.specs.Containing.{may_hold, outermost, holder_among, containing_block, makes_context, clips};
 ghost use Rattle.box_tree.specs.Edited.{ancestors_below};
 ghost use Rattle.box_tree.specs.Kept.{label_of};
 
 use crate::node::Node;
 use crate::page::Page;
 use crate::used::{
-    is_block_container, is_positioned, is_real_context, is_transformed, used_position,
+    is_block_container, is_clipping, is_positioned, is_real_context, is_transformed, used_position,
 };
 use computed_style::Position;
 
@@ -46,6 +46,16 @@ impl Page {
         self.validity();
         let node = self.find(id).unwrap();
         is_real_context(self.find(node.parent), node)
+    }
+
+    /// Whether a node clips what it holds (CSS 2.2, 11.1.1).
+    pub fn clips(&self, id: u32) -> bool
+        requires { IsTrue (has_id self.now.contents id) }
+        ensures { result ≡ clips self.now.contents id }
+    {
+        self.validity();
+        let node = self.find(id).unwrap();
+        is_clipping(self.find(node.parent), node)
     }
 
     // The nearest of a node and its ancestors that may hold what has this position.

@@ -1,7 +1,7 @@
 ghost use Rattle.std.specs.Prelude.{◌≡◌, ◌↔◌, ◌≤ℤ◌, ◌^◌, pos, IsTrue};
 ghost use Rattle.box_tree.specs.declared.edit.EditFault.TheVariants.{OutOfMemory};
-ghost use Rattle.box_tree.specs.Contents.{IsSpotInRange, IsMaxInRange};
-ghost use Rattle.box_tree.specs.Edited.{IsId, IsAddInRange, IsPlaceInRange, IsRestyleInRange, IsResizeInRange, IsInRange, fault_number, fault_name};
+ghost use Rattle.box_tree.specs.Contents.{IsWithin, IsSpotInRange, IsMaxInRange};
+ghost use Rattle.box_tree.specs.Edited.{IsId, IsAddInRange, IsPlaceInRange, IsRestyleInRange, IsScrollInRange, IsResizeInRange, IsScrollViewInRange, IsInRange, fault_number, fault_name};
 
 use crate::kind::Kind;
 use crate::piece::{MOST, PieceList, lies_between};
@@ -47,12 +47,25 @@ pub enum Edit {
         id: u32,
         style: Style,
     },
+    /// The node is scrolled to this position, within 2^26 units either way, each coordinate clamped between 0 and its
+    /// greatest scroll. A scroll of a node that doesn't clip is kept too.
+    Scroll {
+        id: u32,
+        x: i64,
+        y: i64,
+    },
     /// The viewport gets these sides, 1 to 2^20 units each, and this greatest scroll, 0 to 2^26 units in each coordinate, to
     /// which its scroll is clamped.
     Resize {
         w: i64,
         h: i64,
         max: Spot,
+    },
+    /// The viewport is scrolled to this position, within 2^26 units either way, each coordinate clamped between 0 and its
+    /// greatest scroll.
+    ScrollView {
+        x: i64,
+        y: i64,
     },
 }
 
@@ -71,7 +84,9 @@ impl Edit {
                 max,
             } => is_place_in_range(*id, *anchor, boxes, *max),
             Edit::Restyle { id, style } => is_restyle_in_range(*id, style),
+            Edit::Scroll { id, x, y } => is_scroll_in_range(*id, *x, *y),
             Edit::Resize { w, h, max } => is_resize_in_range(*w, *h, *max),
+            Edit::ScrollView { x, y } => is_scroll_view_in_range(*x, *y),
         }
     }
 }
@@ -102,6 +117,27 @@ fn is_restyle_in_range(id: u32, style: &Style) -> bool
     ensures { IsTrue result ↔ IsRestyleInRange id style.now }
 {
     is_id(id) && style.in_range()
+}
+
+// Whether the numbers of a scroll are within their limits.
+fn is_scroll_in_range(id: u32, x: i64, y: i64) -> bool
+    ensures { IsTrue result ↔ IsScrollInRange id x y }
+{
+    is_id(id) && (is_coordinate(x) && is_coordinate(y))
+}
+
+// Whether the numbers of a scroll of the viewport are within their limits.
+fn is_scroll_view_in_range(x: i64, y: i64) -> bool
+    ensures { IsTrue result ↔ IsScrollViewInRange x y }
+{
+    is_coordinate(x) && is_coordinate(y)
+}
+
+// Whether a coordinate is within the limits.
+fn is_coordinate(number: i64) -> bool
+    ensures { IsTrue result ↔ IsWithin 26 number }
+{
+    lies_between(-MOST, number, MOST)
 }
 
 // Whether the numbers of a resize are within their limits.
@@ -158,6 +194,8 @@ pub enum EditFault {
     Deep,
     #[error("the page is full")]
     Full,
+    #[error("a map on the way to a node would pass the bound")]
+    Bound,
     #[error("out of memory")]
     OutOfMemory,
 }
@@ -175,6 +213,7 @@ impl EditFault {
             EditFault::Place => Some(8),
             EditFault::Deep => Some(9),
             EditFault::Full => Some(10),
+            EditFault::Bound => Some(11),
             EditFault::OutOfMemory => None,
         }
     }
@@ -191,6 +230,7 @@ impl EditFault {
             EditFault::Place => "place",
             EditFault::Deep => "deep",
             EditFault::Full => "full",
+            EditFault::Bound => "bound",
             EditFault::OutOfMemory => "memory",
         }
     }

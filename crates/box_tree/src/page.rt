@@ -24,6 +24,7 @@ mod removes;
 mod resizes;
 mod restyles;
 mod reverts;
+mod scrolls;
 
 /// A page: a tree of nodes or none, seen through a viewport.
 #[derive(Drop)]
@@ -147,7 +148,9 @@ impl Page {
                 max,
             } => self.plan_place(*id, *anchor, boxes, *max)?,
             Edit::Restyle { id, style } => self.plan_restyle(*id, style)?,
+            Edit::Scroll { id, x, y } => self.plan_scroll(*id, *x, *y)?,
             Edit::Resize { w, h, max } => self.plan_resize(*w, *h, *max),
+            Edit::ScrollView { x, y } => self.plan_scroll_view(*x, *y),
         };
         Ok(Prepared {
             plan,
@@ -189,6 +192,7 @@ impl Page {
             } => self.relocate(place, siblings, children, ids, &edit),
             Plan::ChangeNode { id, change } => self.change(id, change, &edit),
             Plan::ResizeViewport { w, h, max } => self.resize(w, h, max, &edit),
+            Plan::ScrollViewport { to } => self.scroll_view(to, &edit),
         };
         Undo {
             taken,

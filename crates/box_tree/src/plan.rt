@@ -23,6 +23,8 @@ pub(crate) struct Layout {
 pub(crate) enum Change {
     Layout(Layout),
     Style(Style),
+    /// How far it is scrolled.
+    Scroll(Spot),
 }
 
 /// What a page is beside its nodes.
@@ -85,6 +87,10 @@ pub(crate) enum Plan {
         h: i64,
         max: Spot,
     },
+    /// Where the viewport is scrolled to.
+    ScrollViewport {
+        to: Spot,
+    },
 }
 
 /// What carrying out an edit took out of the nodes of the page or replaced there, by which it is taken back.
@@ -116,7 +122,7 @@ pub(crate) enum Taken {
         change: Change,
     },
     /// No node was touched.
-    Resized,
+    Untouched,
 }
 
 /// An edit that was tested, with all the memory that carrying it out takes.

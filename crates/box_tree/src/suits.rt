@@ -1,7 +1,7 @@
 // What suits which kind of node, row by row as the tables of `specs/Suits.antt` have it.
 ghost use Rattle.std.specs.Prelude.{◌≡◌, None};
 ghost use Rattle.std.specs.Option.{option_copied};
-ghost use Rattle.box_tree.specs.Suits.{is_flow as flows, is_text as names_text, may_hold as holds, box_count_suits as count_suits, takes_place as is_placed, takes_style as is_styled, style_suits as suits_style};
+ghost use Rattle.box_tree.specs.Suits.{is_flow as flows, is_text as names_text, may_hold as holds, box_count_suits as count_suits, takes_place as is_placed, takes_style as is_styled, takes_scroll as is_scrolled, style_suits as suits_style};
 ghost use Rattle.box_tree.specs.SuitsBelow.{kind_suits_below, node_suits_below};
 
 use crate::kind::Kind;
@@ -99,6 +99,16 @@ pub(crate) fn takes_style(kind: Kind) -> bool
     match kind {
         Kind::Block | Kind::Inline | Kind::InlineBlock | Kind::Image => true,
         Kind::Text => false,
+    }
+}
+
+// Whether a node of a kind may be scrolled.
+pub(crate) fn takes_scroll(kind: Kind) -> bool
+    ensures { result ≡ is_scrolled kind }
+{
+    match kind {
+        Kind::Block | Kind::Inline | Kind::InlineBlock => true,
+        Kind::Image | Kind::Text => false,
     }
 }
 

@@ -2,12 +2,12 @@
 ghost use Rattle.std.specs.Prelude.{◌≡◌, nat_lt, length};
 ghost use Rattle.std.specs.Option.{option_map, option_copied};
 ghost use Rattle.box_tree.specs.Kept.{label_of};
-ghost use Rattle.box_tree.specs.Used.{takes_out, takes_offsets, is_fixed_at, position_as, is_block_level_as, is_block_container_as, is_atomic_as, may_make_context, has_context_style};
-ghost use Rattle.box_tree.specs.Used.{used_position, is_taken_out, is_floating, is_block_level, is_block_container, is_atomic, is_transformed, is_positioned, is_real_context, stack_level, is_in_flow};
+ghost use Rattle.box_tree.specs.Used.{cuts_off, has_box, takes_out, takes_offsets, is_fixed_at, position_as, is_block_level_as, is_block_container_as, is_atomic_as, may_make_context, has_context_style};
+ghost use Rattle.box_tree.specs.Used.{used_position, is_taken_out, is_floating, is_block_level, is_block_container, is_atomic, is_transformed, is_clipping, is_positioned, is_real_context, stack_level, is_in_flow};
 
 use crate::kind::Kind;
 use crate::node::Node;
-use computed_style::Position;
+use computed_style::{Overflow, Position};
 
 /// The position that counts: that of its style, and static for a text (CSS 2.2, 9.3.1).
 pub fn used_position(node: &Node) -> Position
@@ -65,6 +65,17 @@ pub fn is_transformed(parent: Option<&Node>, node: &Node) -> bool
     (is_block_level(parent, node) || is_atomic(parent, node)) && has_transform(node)
 }
 
+/// Whether a node clips what it holds: its overflow isn't visible, it has a box, and it is a block container other than the
+/// root (CSS 2.2, 11.1.1).
+pub fn is_clipping(parent: Option<&Node>, node: &Node) -> bool
+    ensures { result ≡ is_clipping (option_map label_of (option_copied parent.entry)) (label_of node.now) }
+{
+    if parent.is_none() {
+        return false;
+    }
+    cuts_off(node.style.overflow) && (has_box(node) && is_block_container(parent, node))
+}
+
 /// Whether a node is positioned: its position isn't static (CSS 2.2, 9.3.2).
 pub fn is_positioned(_parent: Option<&Node>, node: &Node) -> bool
     ensures { result ≡ is_positioned (option_map label_of (option_copied _parent.entry)) (label_of node.now) }
@@ -119,6 +130,23 @@ fn takes_out(position: Position) -> bool
         Position::Static | Position::Relative => false,
         Position::Absolute | Position::Fixed => true,
     }
+}
+
+// Whether an overflow isn't visible.
+fn cuts_off(overflow: Option<Overflow>) -> bool
+    ensures { result ≡ cuts_off overflow }
+{
+    match overflow {
+        None | Some(Overflow::Visible) => false,
+        Some(Overflow::Auto | Overflow::Clip) => true,
+    }
+}
+
+// Whether a node has a box.
+fn has_box(node: &Node) -> bool
+    ensures { result ≡ has_box (label_of node.now) }
+{
+    node.boxes.count() > 0
 }
 
 // Whether a position isn't static.

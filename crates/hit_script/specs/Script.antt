@@ -2,7 +2,7 @@
 use Rattle.std.specs.Prelude.{ℕ, pos, List, [], ◌∷◌, ◌++◌, if◌then◌else◌, Option, Some, None, Result, Ok, Err}
 use Rattle.std.specs.Option.{option_map_or}
 use Rattle.box_tree.specs.Contents.{Contents, empty_page}
-use Rattle.box_tree.specs.Edited.{edited, answer_of, first_fault}
+use Rattle.box_tree.specs.Edited.{edited, answer_of}
 use Rattle.box_tree.specs.declared.edit.Done.{Done}
 use Rattle.box_tree.specs.declared.edit.Done.TheVariants as done
 use Rattle.box_tree.specs.declared.edit.Edit.{Edit}
@@ -15,6 +15,7 @@ use Rattle.script_lines.specs.declared.command.Command.{Command}
 use Rattle.script_lines.specs.declared.command.Command.TheVariants as command
 use Rattle.script_lines.specs.declared.command.LineFault.{LineFault}
 use Rattle.script_lines.specs.declared.command.LineFault.TheVariants as line_fault
+use Rattle.tree_edits.specs.Edits.{first_fault}
 use Rattle.hit_script.specs.Lines.{lines}
 
 -- the page that a script begins with: no node, and a viewport of 1,280 by 720 px

@@ -1,7 +1,8 @@
 ghost use Rattle.std.specs.Prelude.{◌≡◌, ◌≢◌, List, Option, Some, None, option_map, IfOk, IfErr, IfSome, OnOk, OnErr};
 ghost use Rattle.box_tree.specs.Contents.{Contents, IsWithin};
-ghost use Rattle.box_tree.specs.Edited.{IsInRange, edited, answer_of, first_fault};
+ghost use Rattle.box_tree.specs.Edited.{IsInRange, edited, answer_of};
 ghost use Rattle.point_query.specs.Elements.{elements_from_point, element_from_point};
+ghost use Rattle.tree_edits.specs.Edits.{first_fault};
 ghost use Rattle.hit_script.specs.Log.{Entry, EditEntry, HitEntry, TopEntry, Logs};
 
 use crate::memory::OutOfMemory;

@@ -13,6 +13,7 @@ use std::process::Abort;
 use std::test::Fail;
 use tree_edits::Engine;
 
+mod maps;
 mod painting;
 
 /// A piece as large as any.
@@ -415,6 +416,11 @@ fn scripts_are_answered(rt: HostRuntime) -> Result<(), Fail> {
         (painting::LINES, painting::LINES_REPLIES),
         (painting::IMAGE, painting::IMAGE_REPLIES),
         (painting::HOLDERS, painting::HOLDERS_REPLIES),
+        (maps::TURNED, maps::TURNED_REPLIES),
+        (maps::SINGULAR, maps::SINGULAR_REPLIES),
+        (maps::FIXED, maps::FIXED_REPLIES),
+        (maps::DEEP_SCALES, maps::DEEP_SCALES_REPLIES),
+        (maps::AT_THE_BOUND, maps::AT_THE_BOUND_REPLIES),
     ] {
         assert_replies(&rt, rt.alloc(), script, replies)?;
     }

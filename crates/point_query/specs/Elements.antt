@@ -2,6 +2,8 @@
 use Rattle.std.specs.Prelude.{ℕ, ◌+◌, ◌-◌, length, slice_get, List, [], ◌∷◌, ◌++◌, map, reverse, Option, Bool, false, not, ◌&&◌, if◌then◌else◌, ◌==◌, ℤ, pos, ◌+ℤ◌, ◌-ℤ◌, ◌*ℤ◌, int_le, int_lt}
 use Rattle.std.specs.Option.{option_map_or}
 use Rattle.std.specs.List.{filter}
+use Rattle.computed_style.specs.declared.inherited.Inherited.{Inherited}
+use Rattle.computed_style.specs.PointerEvents.{box_is_target}
 use Rattle.box_tree.specs.declared.kind.Kind.{Kind}
 use Rattle.box_tree.specs.declared.kind.Kind.TheVariants.{Block, Inline, InlineBlock, Image, Text}
 use Rattle.box_tree.specs.declared.item.Item.{Item}
@@ -13,6 +15,7 @@ use Rattle.box_tree.specs.Forest.{Label, roots_of}
 use Rattle.box_tree.specs.Contents.{Contents, placed_of, parent_id}
 use Rattle.spaces.specs.declared.space.FinePoint.{FinePoint}
 use Rattle.spaces.specs.Spaces.{top_border, right_border, bottom_border, left_border, local_point}
+use Rattle.spaces.specs.Values.{values_below}
 use Rattle.stacking.specs.Painting.{layer}
 use Rattle.stacking.specs.OnPage.{of_node}
 
@@ -30,17 +33,19 @@ padding_box_holds n box at =
     lies_between (box.l +ℤ left_border n) ((box.l +ℤ box.w) -ℤ right_border n) at.x
     && lies_between (box.t +ℤ top_border n) ((box.t +ℤ box.h) -ℤ bottom_border n) at.y
 
--- whether the area of a part of a node holds a point: of a box that box, of the content of an image the padding box of its
--- box; outlines aren't painted yet
-abbrev pub part_holds : Label → Part → FinePoint → Bool
-part_holds n (Box place) at = option_map_or (λ box. box_holds box at) (slice_get n.boxes place) false
-part_holds n Content at = option_map_or (λ box. padding_box_holds n box at) (slice_get n.boxes 0) false
-part_holds n Outline at = false
+-- The rows of admission, one for each sort of item: whether its area holds the local point of its node, and whether the
+-- values of the node let it be a target (SVG 2, "The 'pointer-events' property"; CSS 2.2, 11.2). The area of a box is that
+-- box, that of the content of an image the padding box of its box; outlines aren't painted yet.
+abbrev pub part_admits : Label → Inherited → FinePoint → Part → Bool
+part_admits n values at (Box place) = box_is_target values && option_map_or (λ box. box_holds box at) (slice_get n.boxes place) false
+part_admits n values at Content = box_is_target values && option_map_or (λ box. padding_box_holds n box at) (slice_get n.boxes 0) false
+part_admits n values at Outline = false
 
--- whether an item is admitted at a point of the viewport: its area holds the local point of its node
+-- whether an item is admitted at a point of the viewport: its row holds of its node, of what that inherits, and of its
+-- local point
 abbrev pub admits : Contents → ℤ → ℤ → Item → Bool
 admits page x y item =
-    option_map_or (λ p. option_map_or (part_holds p.label item.part) (local_point page item.node x y) false) (placed_of page item.node) false
+    option_map_or (λ p. option_map_or (λ at. part_admits p.label (values_below p.above p.label) at item.part) (local_point page item.node x y) false) (placed_of page item.node) false
 
 -- the element of a node of this kind, by the ids of its parent and of itself: a text has that of its parent
 abbrev pub element_as : Kind → (parent own : ℕ) → ℕ

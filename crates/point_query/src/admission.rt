@@ -1,13 +1,17 @@
 // Which items are admitted at a point of the viewport, and what element each of them belongs to.
-ghost use Rattle.std.specs.Prelude.{◌≡◌, ◌≤◌, ◌*◌, ◌^◌, ◌+ℤ◌, ◌-ℤ◌, ◌∷◌, [], slice_get, unsigned_abs, false};
+ghost use Rattle.std.specs.Prelude.{◌≡◌, ◌≤◌, ◌*◌, ◌^◌, ◌+ℤ◌, ◌-ℤ◌, ◌∷◌, [], slice_get, unsigned_abs, IsTrue, false};
 ghost use Rattle.std.specs.Option.{option_map_or, option_to_list};
 ghost use Rattle.box_tree.specs.Contents.{IsWithin};
 ghost use Rattle.box_tree.specs.Kept.{label_of};
-ghost use Rattle.point_query.specs.Elements.{elements_of, element_as, part_holds, box_holds, padding_box_holds, lies_between};
+ghost use Rattle.spaces.specs.Bound.{is_bounded};
+ghost use Rattle.point_query.specs.Elements.{elements_of, element_as, part_admits, box_holds, padding_box_holds, lies_between};
 
 use box_tree::{Item, Kind, Node, Page, Part, Piece};
+use computed_style::{Inherited, admits_box};
 use fractions::{Ledger, Steps};
-use spaces::{FinePoint, bottom_border, left_border, local_point, right_border, top_border};
+use spaces::{
+    FinePoint, bottom_border, left_border, local_point, plain_values, right_border, top_border,
+};
 
 // The element of an item, where the item is admitted at a point of the viewport.
 pub(crate) fn admitted_element<L: Ledger>(
@@ -17,16 +21,18 @@ pub(crate) fn admitted_element<L: Ledger>(
     y: i64,
     steps: &mut Steps<L>,
 ) -> Option<u32>
-    requires x { IsWithin 26 x }
-    requires y { IsWithin 26 y }
+    requires bounded { IsTrue (is_bounded page.now.contents) }
+    requires x { IsWithin 20 x }
+    requires y { IsWithin 20 y }
     ensures { option_to_list result ≡ elements_of page.now.contents x y (item ∷ []) }
 {
     if !page.has(item.node) {
         return None;
     }
     let at = local_point(page, item.node, x, y, steps);
+    let values = plain_values(page, item.node, steps);
     let node = page.node(item.node, steps);
-    if part_holds(node, item.part, at) {
+    if admits_at(node, &values, at, item.part) {
         Some(element_of(node))
     } else {
         None
@@ -43,13 +49,25 @@ fn element_of(node: &Node) -> u32
     }
 }
 
-// Whether the area of a part of a node holds a point.
-fn part_holds(node: &Node, part: Part, at: FinePoint) -> bool
-    ensures { result ≡ part_holds (label_of node.now) part at }
+// Whether a part of a node is admitted at its local point, where it has one.
+fn admits_at(node: &Node, values: &Inherited, at: Option<FinePoint>, part: Part) -> bool
+    ensures { result ≡ option_map_or (λ a. part_admits (label_of node.now) values.now a part) at false }
+{
+    match at {
+        Some(at) => part_admits(node, values, at, part),
+        None => false,
+    }
+}
+
+// Whether a part of a node is admitted at its local point: its area holds the point, and its values let it be a target.
+fn part_admits(node: &Node, values: &Inherited, at: FinePoint, part: Part) -> bool
+    ensures { result ≡ part_admits (label_of node.now) values.now at part }
 {
     match part {
-        Part::Box { place } => some_box_holds(node.boxes.as_slice(), place, at),
-        Part::Content => content_holds(node, at),
+        Part::Box { place } => {
+            admits_box(values) && some_box_holds(node.boxes.as_slice(), place, at)
+        }
+        Part::Content => admits_box(values) && content_holds(node, at),
         Part::Outline => false,
     }
 }

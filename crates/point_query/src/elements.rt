@@ -1,7 +1,8 @@
-ghost use Rattle.std.specs.Prelude.{◌≡◌, ◌↔◌, ◌⊎◌, false, IsNone, ◌++◌, ◌∷◌, [], ◌&&◌, int_le, if◌then◌else◌, IfOk};
+ghost use Rattle.std.specs.Prelude.{◌≡◌, ◌↔◌, ◌⊎◌, false, IsNone, ◌++◌, ◌∷◌, [], ◌&&◌, int_le, if◌then◌else◌, IsTrue, IfOk};
 ghost use Rattle.std.specs.Option.{option_to_list};
 ghost use Rattle.box_tree.specs.Contents.{IsWithin};
 ghost use Rattle.box_tree.specs.Forest.{roots_of};
+ghost use Rattle.spaces.specs.Bound.{is_bounded};
 ghost use Rattle.point_query.specs.Elements.{elements_of, elements_from_point, element_from_point, each_once, is_inside, then_root, ends_with};
 
 use crate::admission::admitted_element;
@@ -87,8 +88,9 @@ fn admitted_elements<L: Ledger>(
     y: i64,
     steps: &mut Steps<L>,
 ) -> Result<Vec<u32>, OutOfMemory>
-    requires x { IsWithin 26 x }
-    requires y { IsWithin 26 y }
+    requires bounded { IsTrue (is_bounded page.now.contents) }
+    requires x { IsWithin 20 x }
+    requires y { IsWithin 20 y }
     ensures { IfOk result (λ ids. ids.items ≡ elements_of page.now.contents x y items.now) }
 {
     let mut ids = Vec::new(alloc);

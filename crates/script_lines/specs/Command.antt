@@ -89,14 +89,20 @@ kind_named name =
     else if bytes_eq name (codes "text") then Some Text
     else None
 
--- the parent, the place, the kind and the style of a new node
-unfoldable pub new_node : Data → Option (ℕ × ℕ × Kind × Style)
-new_node d = do
+-- the parent, the place and the kind of a new node
+unfoldable pub new_place : Data → Option (ℕ × ℕ × Kind)
+new_place d = do
   parent ← get (codes "parent") d >>= number_to 4294967295
   place ← get (codes "at") d >>= number_to 4294967295
   kind ← get (codes "kind") d >>= as_str >>= kind_named
+  Some (parent, place, kind)
+
+-- the parent, the place, the kind and the style of a new node
+unfoldable pub new_node : Data → Option (ℕ × ℕ × Kind × Style)
+new_node d = do
+  node ← new_place d
   style ← get (codes "style") d >>= style_of
-  Some (parent, place, kind, style)
+  Some (node.0, node.1, node.2, style)
 
 abbrev pub add_fields : Data → Option Command
 add_fields d = do

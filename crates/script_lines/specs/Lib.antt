@@ -3,3 +3,4 @@ pub mod Command
 pub mod Numbers
 pub mod Reply
 pub mod Style
+pub mod Transform

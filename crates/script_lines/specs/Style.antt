@@ -9,6 +9,7 @@ use Rattle.computed_style.specs.declared.style.Position.{Position}
 use Rattle.computed_style.specs.declared.style.Position.TheVariants.{Static, Relative, Absolute, Fixed}
 use Rattle.computed_style.specs.declared.style.Style.{Style}
 use Rattle.script_lines.specs.Numbers.{◌>>=◌, number_within, number_to, is_array_of}
+use Rattle.script_lines.specs.Transform.{transform_of, origin_of}
 
 abbrev pub position_named : List ℕ → Option Position
 position_named name =
@@ -57,16 +58,23 @@ border_widths d = do
 unfoldable pub border_of : Data → Option (List ℤ)
 border_of d = if is_array_of 4 d then border_widths d else None
 
--- a style with the value of one key more, by the row of the key; a name that has no row is none
-unfoldable pub with_key : List ℕ → Data → Style → Option Style
-with_key key d s =
+-- a style with the value of one key more that takes no list, by the row of the key; a name that has no row is none
+unfoldable pub with_plain_key : List ℕ → Data → Style → Option Style
+with_plain_key key d s =
     if bytes_eq key (codes "position") then option_map (λ position. record s { position = position }) (as_str d >>= position_named)
     else if bytes_eq key (codes "float") then option_map (λ floats. record s { floats = floats }) (as_str d >>= floats_named)
     else if bytes_eq key (codes "z") then option_map (λ z. record s { z = Some z }) (z_of d)
     else if bytes_eq key (codes "opacity") then option_map (λ opacity. record s { opacity = opacity }) (opacity_of d)
     else if bytes_eq key (codes "border") then option_map (λ border. record s { border = border }) (border_of d)
     else if bytes_eq key (codes "display") then option_map (λ block. record s { display_block = block }) (as_str d >>= block_named)
+    else if bytes_eq key (codes "origin") then option_map (λ origin. record s { origin = Some origin }) (origin_of d)
     else None
+
+-- a style with the value of one key more, by the row of the key
+unfoldable pub with_key : List ℕ → Data → Style → Option Style
+with_key key d s =
+    if bytes_eq key (codes "transform") then option_map (λ functions. record s { transform = functions }) (transform_of d)
+    else with_plain_key key d s
 
 -- each key, one after another; none stands in an object twice
 abbrev pub each_key : Members → Style → Option Style

@@ -9,6 +9,7 @@ mod command;
 mod reply;
 mod rows;
 mod style;
+mod transform;
 mod values;
 
 pub use command::{Command, LONGEST_LINE, LineFault, command_of, is_blank};

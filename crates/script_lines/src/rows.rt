@@ -4,7 +4,7 @@ ghost use Rattle.serde_json.specs.View.{view};
 ghost use Rattle.computed_style.specs.Ranges.{IsStyleInRange};
 ghost use Rattle.box_tree.specs.Contents.{IsSpotInRange, IsMaxInRange, IsWithin};
 ghost use Rattle.box_tree.specs.Edited.{IsId};
-ghost use Rattle.script_lines.specs.Command.{new_node, add_of, remove_of, move_of, layout, place_of, restyle_of, resize_of, point_of, hit_of, top_of, command_reading, IsAskable};
+ghost use Rattle.script_lines.specs.Command.{new_place, new_node, add_of, remove_of, move_of, layout, place_of, restyle_of, resize_of, point_of, hit_of, top_of, command_reading, IsAskable};
 
 use crate::command::Command;
 use crate::style::style_from;
@@ -20,15 +20,28 @@ use std::alloc::{AllocError, Global};
 
 // The parent, the place, the kind and the style of a new node.
 #[tactic(auto, unfolding(crate::specs::Command::new_node))]
-fn node_from(alloc: Global, value: &Value) -> Option<(u32, u32, Kind, Style)>
-    ensures value { result ≡ new_node (view value.now) }
-    ensures in_range { IfSome result (λ node. IsStyleInRange node.3) }
+fn node_from(alloc: Global, value: &Value) -> Result<Option<(u32, u32, Kind, Style)>, AllocError>
+    ensures value { IfOk result (λ node. node ≡ new_node (view value.now)) }
+    ensures in_range { IfOk result (λ node. IfSome node (λ n. IsStyleInRange n.3)) }
+{
+    let Some((parent, at, kind)) = place_of_node(value) else {
+        return Ok(None);
+    };
+    let Some(style) = style_from(alloc, value.get("style"))? else {
+        return Ok(None);
+    };
+    Ok(Some((parent, at, kind, style)))
+}
+
+// The parent, the place and the kind of a new node.
+#[tactic(auto, unfolding(crate::specs::Command::new_place))]
+fn place_of_node(value: &Value) -> Option<(u32, u32, Kind)>
+    ensures { result ≡ new_place (view value.now) }
 {
     let parent = number_to(value.get("parent"), u32::MAX)?;
     let at = number_to(value.get("at"), u32::MAX)?;
     let kind = kind_from(value.get("kind"))?;
-    let style = style_from(alloc, value.get("style"))?;
-    Some((parent, at, kind, style))
+    Some((parent, at, kind))
 }
 
 #[tactic(auto, unfolding(crate::specs::Command::add_of))]
@@ -39,7 +52,7 @@ fn add_from(alloc: Global, value: &Value) -> Result<Option<Command>, AllocError>
     if !is_object_of(value, 6) {
         return Ok(None);
     }
-    let Some((parent, at, kind, style)) = node_from(alloc, value) else {
+    let Some((parent, at, kind, style)) = node_from(alloc, value)? else {
         return Ok(None);
     };
     let Some(boxes) = boxes_from(alloc, value.get("boxes"))? else {
@@ -117,16 +130,20 @@ fn layout_from(value: &Value) -> Option<(u32, Spot, Spot)>
 }
 
 #[tactic(auto, unfolding(crate::specs::Command::restyle_of))]
-fn restyle_from(alloc: Global, value: &Value) -> Option<Command>
-    ensures value { result ≡ restyle_of (view value.now) }
-    ensures in_range { IfSome result IsAskable }
+fn restyle_from(alloc: Global, value: &Value) -> Result<Option<Command>, AllocError>
+    ensures value { IfOk result (λ command. command ≡ restyle_of (view value.now)) }
+    ensures in_range { IfOk result (λ command. IfSome command IsAskable) }
 {
     if !is_object_of(value, 3) {
-        return None;
+        return Ok(None);
     }
-    let id = id_from(value.get("id"))?;
-    let style = style_from(alloc, value.get("style"))?;
-    Some(Command::Edit(Edit::Restyle { id, style }))
+    let Some(id) = id_from(value.get("id")) else {
+        return Ok(None);
+    };
+    let Some(style) = style_from(alloc, value.get("style"))? else {
+        return Ok(None);
+    };
+    Ok(Some(Command::Edit(Edit::Restyle { id, style })))
 }
 
 #[tactic(auto, unfolding(crate::specs::Command::resize_of))]
@@ -184,7 +201,7 @@ pub fn command_from(alloc: Global, value: &Value) -> Result<Option<Command>, All
         Some("remove") => Ok(remove_from(value)),
         Some("move") => Ok(move_from(value)),
         Some("place") => place_from(alloc, value),
-        Some("style") => Ok(restyle_from(alloc, value)),
+        Some("style") => restyle_from(alloc, value),
         Some("resize") => Ok(resize_from(value)),
         Some("hit") => Ok(hit_from(value)),
         Some("top") => Ok(top_from(value)),

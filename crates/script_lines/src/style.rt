@@ -1,15 +1,17 @@
 // The style that a JSON object spells, each of its keys by its row.
-ghost use Rattle.std.specs.Prelude.{◌≡◌, ◌≤◌, ◌≤ℤ◌, pos, negsuc, All, IfNone, IfSome, OnSome, Some, None, option_map, option_and_then};
+ghost use Rattle.std.specs.Prelude.{◌≡◌, ◌≤◌, ◌≤ℤ◌, pos, negsuc, All, IfNone, IfOk, IfSome, IsTrue, OnSome, Some, None, false, option_map, option_and_then};
 ghost use Rattle.serde_json.specs.Find.{as_str};
 ghost use Rattle.serde_json.specs.View.{view, members_view};
 ghost use Rattle.computed_style.specs.Defaults.{empty_style};
 ghost use Rattle.computed_style.specs.Ranges.{IsSide, IsStyleInRange};
-ghost use Rattle.script_lines.specs.Style.{position_named, floats_named, block_named, z_of, opacity_of, width_of, border_of, with_key, each_key, style_of};
+ghost use Rattle.script_lines.specs.Transform.{transform_of};
+ghost use Rattle.script_lines.specs.Style.{position_named, floats_named, block_named, z_of, opacity_of, width_of, border_of, with_plain_key, with_key, each_key, style_of};
 
+use crate::transform::{origin_from, transform_from};
 use crate::values::{is_array_of, number_to, number_within};
 use computed_style::{Position, Style};
 use serde_json::{Map, Value};
-use std::alloc::Global;
+use std::alloc::{AllocError, Global};
 
 // The greatest opacity, in thousandths.
 const OPAQUE: u32 = 1000;
@@ -18,31 +20,64 @@ const OPAQUE: u32 = 1000;
 const WIDEST: i64 = 1 << 20;
 
 // The style that an object spells.
-pub(crate) fn style_from(alloc: Global, found: Option<&Value>) -> Option<Style>
-    ensures value { result ≡ option_and_then style_of (option_map (λ v. view v.now) found.entry) }
-    ensures in_range { IfSome result IsStyleInRange }
+pub(crate) fn style_from(alloc: Global, found: Option<&Value>) -> Result<Option<Style>, AllocError>
+    ensures value { IfOk result (λ style. style ≡ option_and_then style_of (option_map (λ v. view v.now) found.entry)) }
+    ensures in_range { IfOk result (λ style. IfSome style IsStyleInRange) }
 {
-    declared(alloc, found?.as_object()?)
+    match found.and_then(Value::as_object) {
+        Some(members) => declared(alloc, members),
+        None => Ok(None),
+    }
 }
 
 // The style with each of these keys, over the one in which nothing is declared.
-fn declared(alloc: Global, members: &Map<String, Value>) -> Option<Style>
-    ensures value { result ≡ each_key (members_view members.now.entries) empty_style }
-    ensures in_range { IfSome result IsStyleInRange }
+fn declared(alloc: Global, members: &Map<String, Value>) -> Result<Option<Style>, AllocError>
+    ensures value { IfOk result (λ style. style ≡ each_key (members_view members.now.entries) empty_style) }
+    ensures in_range { IfOk result (λ style. IfSome style IsStyleInRange) }
 {
     let mut style = Style::new(alloc);
     for (key, value) in members.iter() {
-        declare(&mut style, key.as_str(), value)?;
+        if !declare(alloc, &mut style, key.as_str(), value)? {
+            return Ok(None);
+        }
     }
-    Some(style)
+    Ok(Some(style))
 }
 
-// The style gets the value of one key more; where there is none, it stays.
+// The style gets the value of one key more, where there is one, which is the answer.
 #[tactic(auto, unfolding(crate::specs::Style::with_key))]
-fn declare(style: &mut Style, key: &str, value: &Value) -> Option<()>
+fn declare(alloc: Global, style: &mut Style, key: &str, value: &Value) -> Result<bool, AllocError>
     requires { IsStyleInRange style.old }
-    ensures given { OnSome result (with_key key.now (view value.now) style.old ≡ Some style.new) }
-    ensures none { IfNone result (with_key key.now (view value.now) style.old ≡ None) }
+    ensures given { IfOk result (λ is. IsTrue is → with_key key.now (view value.now) style.old ≡ Some style.new) }
+    ensures none { IfOk result (λ is. is ≡ false → with_key key.now (view value.now) style.old ≡ None) }
+    ensures in_range { IsStyleInRange style.new }
+{
+    match key {
+        "transform" => declare_transform(alloc, style, value),
+        _ => Ok(declare_plain(style, key, value).is_some()),
+    }
+}
+
+fn declare_transform(alloc: Global, style: &mut Style, value: &Value) -> Result<bool, AllocError>
+    requires { IsStyleInRange style.old }
+    ensures given { IfOk result (λ is. IsTrue is
+        → option_map (λ functions. record style.old { transform = functions }) (transform_of (view value.now)) ≡ Some style.new) }
+    ensures none { IfOk result (λ is. is ≡ false → transform_of (view value.now) ≡ None) }
+    ensures in_range { IsStyleInRange style.new }
+{
+    let Some(transform) = transform_from(alloc, value)? else {
+        return Ok(false);
+    };
+    style.transform = transform;
+    Ok(true)
+}
+
+// The style gets the value of one key more that takes no list; where there is none, it stays.
+#[tactic(auto, unfolding(crate::specs::Style::with_plain_key))]
+fn declare_plain(style: &mut Style, key: &str, value: &Value) -> Option<()>
+    requires { IsStyleInRange style.old }
+    ensures given { OnSome result (with_plain_key key.now (view value.now) style.old ≡ Some style.new) }
+    ensures none { IfNone result (with_plain_key key.now (view value.now) style.old ≡ None) }
     ensures in_range { IsStyleInRange style.new }
 {
     match key {
@@ -52,6 +87,7 @@ fn declare(style: &mut Style, key: &str, value: &Value) -> Option<()>
         "opacity" => style.opacity = opacity_from(value)?,
         "border" => style.border = border_from(value)?,
         "display" => style.display_block = block_from(value)?,
+        "origin" => style.origin = Some(origin_from(value)?),
         _ => return None,
     }
     Some(())

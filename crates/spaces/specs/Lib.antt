@@ -1,2 +1,5 @@
-pub mod Spaces
+pub mod Bound
+pub mod Checked
 pub mod Sizes
+pub mod Spaces
+pub mod Values

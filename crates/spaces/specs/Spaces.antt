@@ -1,28 +1,25 @@
--- Where a node stands: its space is the product of factors along its containing blocks, from the viewport inward
--- (CSS 2.2, 10.1). Each factor is a translation; a transform isn't one of them yet.
-use Rattle.std.specs.Prelude.{ℕ, List, [], ◌∷◌, ◌++◌, fold, Option, Some, None, slice_index_or, ℤ, pos, neg_ℤ, ◌+ℤ◌, ◌-ℤ◌, ◌*ℤ◌}
-use Rattle.std.specs.Option.{option_map}
+-- Where a node stands: its space is the product of maps along its containing blocks, from the viewport inward
+-- (CSS 2.2, 10.1; CSS Transforms 1, 3). A map is a matrix over one denominator, in lowest terms.
+use Rattle.std.specs.Prelude.{ℕ, List, [], ◌∷◌, ◌++◌, map, fold, Option, Some, None, if◌then◌else◌, slice_index_or, ℤ, pos, neg_ℤ, ◌+ℤ◌, ◌*ℤ◌}
+use Rattle.std.specs.Option.{option_map, option_and_then}
 use Rattle.fractions.specs.declared.rect.Spot.{Spot}
+use Rattle.affine.specs.declared.map.Parts.{Parts}
+use Rattle.affine.specs.Map.{identity_map, translation, product}
+use Rattle.affine.specs.Function.{function_map}
+use Rattle.affine.specs.Point.{local_point as point_in}
 use Rattle.box_tree.specs.declared.piece.Piece.{Piece}
 use Rattle.box_tree.specs.declared.viewport.Viewport.{Viewport}
 use Rattle.box_tree.specs.declared.containing.Holder.{Holder}
 use Rattle.box_tree.specs.declared.containing.Holder.TheVariants.{Node as HolderNode, Initial, Viewport as HolderViewport}
-use Rattle.box_tree.specs.Forest.{Label}
+use Rattle.box_tree.specs.Forest.{Label, Placed}
 use Rattle.box_tree.specs.Contents.{Contents, placed_of}
-use Rattle.box_tree.specs.Used.{used_position}
-use Rattle.box_tree.specs.Containing.{Standing, outermost, containing_block_chain}
-use Rattle.spaces.specs.declared.space.Translation.{Translation}
+use Rattle.box_tree.specs.Used.{used_position, is_transformed}
+use Rattle.box_tree.specs.Containing.{Standing, parent_of, outermost, containing_block_chain}
 use Rattle.spaces.specs.declared.space.FinePoint.{FinePoint}
 
--- the translation that moves nothing, that by a point, and one inside another
-abbrev pub identity : Translation
-identity = record { x = pos 0; y = pos 0 }
-
-abbrev pub moving_by : Spot → Translation
-moving_by by = record { x = by.x; y = by.y }
-
-abbrev pub product : (outer inner : Translation) → Translation
-product outer inner = record { x = outer.x +ℤ inner.x; y = outer.y +ℤ inner.y }
+-- the translation by a point of whole units
+abbrev pub moving_by : Spot → Parts
+moving_by by = translation by.x by.y (pos 1)
 
 -- the widths of the borders (CSS 2.2, 8.5.1), which stand in the order top, right, bottom and left
 abbrev pub top_border : Label → ℤ
@@ -37,48 +34,77 @@ bottom_border n = slice_index_or n.style.border 2 (pos 0)
 abbrev pub left_border : Label → ℤ
 left_border n = slice_index_or n.style.border 3 (pos 0)
 
--- the factor of a padding corner (CSS 2.2, 8.1), where a node has a box: the corner of its first box, with the left and
--- the top border
-abbrev pub corner_of : Label → List Piece → List Translation
+-- the factor of a padding corner (CSS 2.2, 8.1), where a node has a box: the translation to the corner of its first box,
+-- with the left and the top border
+abbrev pub corner_of : Label → List Piece → List Parts
 corner_of n [] = []
-corner_of n (box ∷ boxes) = record { x = box.l +ℤ left_border n; y = box.t +ℤ top_border n } ∷ []
+corner_of n (box ∷ boxes) = translation (box.l +ℤ left_border n) (box.t +ℤ top_border n) (pos 1) ∷ []
 
-abbrev pub padding_corner : Label → List Translation
+abbrev pub padding_corner : Label → List Parts
 padding_corner n = corner_of n n.boxes
 
--- the space in which a containing block places, from its own: its padding corner counts
-abbrev pub inside : Translation → Label → Translation
-inside space holder = fold product space (padding_corner holder)
+-- the box from which the origin of a transform is counted: the first, and without one that of zeros
+abbrev pub first_box : List Piece → Piece
+first_box [] = record { line = 0; l = pos 0; t = pos 0; w = pos 0; h = pos 0 }
+first_box (box ∷ boxes) = box
+
+-- the origin of a transform in the space of its node (CSS Transforms 1, 4), twice, since a centre can have half units:
+-- the corner of the box and what is given, or the centre of the box
+abbrev pub doubled_origin : Option (ℤ × ℤ) → Piece → Spot
+doubled_origin None box = record { x = pos 2 *ℤ box.l +ℤ box.w; y = pos 2 *ℤ box.t +ℤ box.h }
+doubled_origin (Some given) box = record { x = pos 2 *ℤ (box.l +ℤ given.0); y = pos 2 *ℤ (box.t +ℤ given.1) }
+
+-- the factors of a transform around an origin: the translation by anchor and origin, each function in order, and the
+-- translation back by the origin (CSS Transforms 1, 3)
+abbrev pub transform_around : Label → Spot → List Parts
+transform_around n doubled =
+    translation (pos 2 *ℤ n.anchor.x +ℤ doubled.x) (pos 2 *ℤ n.anchor.y +ℤ doubled.y) (pos 2)
+    ∷ (map function_map n.style.transform ++ translation (neg_ℤ doubled.x) (neg_ℤ doubled.y) (pos 2) ∷ [])
+
+-- the factors of a node itself, with its parent before it: those of its transform, and of the anchor alone where it has
+-- none that counts
+abbrev pub own_factors : Option Label → Label → List Parts
+own_factors parent n =
+    if is_transformed parent n then transform_around n (doubled_origin n.style.origin (first_box n.boxes)) else moving_by n.anchor ∷ []
 
 -- the initial containing block is moved by minus the scroll of the viewport
-abbrev pub scrolled : Viewport → Translation
-scrolled viewport = record { x = neg_ℤ viewport.scroll.x; y = neg_ℤ viewport.scroll.y }
+abbrev pub scrolled : Viewport → Parts
+scrolled viewport = translation (neg_ℤ viewport.scroll.x) (neg_ℤ viewport.scroll.y) (pos 1)
 
 -- the space of a containing block that is no node: the viewport doesn't move
-abbrev pub outer_space : Viewport → Holder → Translation
+abbrev pub outer_space : Viewport → Holder → Parts
 outer_space viewport Initial = scrolled viewport
-outer_space viewport HolderViewport = identity
-outer_space viewport (HolderNode id) = identity
+outer_space viewport HolderViewport = identity_map
+outer_space viewport (HolderNode id) = identity_map
 
--- the factors of the space of a node after the space of its containing block, where that is a node: the padding corner
--- of the containing block, and the anchor of the node itself
-abbrev pub space_factors : Option Standing → Standing → List Translation
-space_factors None n = moving_by n.label.anchor ∷ []
-space_factors (Some holder) n = padding_corner holder.label ++ moving_by n.label.anchor ∷ []
+-- the factors of a containing block for what it holds: its padding corner
+abbrev pub holder_factors : Option Standing → List Parts
+holder_factors None = []
+holder_factors (Some holder) = padding_corner holder.label
+
+-- the factors of the space of a node after the space of its containing block: those of the containing block, where that
+-- is a node, and those of the node itself
+abbrev pub space_factors : Option Standing → Standing → List Parts
+space_factors holder n = holder_factors holder ++ own_factors (parent_of n.above) n.label
 
 -- the space of a node with these containing blocks, nearest first: that of the nearest, and then its factors in order
-abbrev pub space_along : Viewport → Standing → List Standing → Translation
+abbrev pub space_along : Viewport → Standing → List Standing → Parts
 space_along viewport n [] = fold product (outer_space viewport (outermost (used_position n.label))) (space_factors None n)
 space_along viewport n (holder ∷ holders) = fold product (space_along viewport holder holders) (space_factors (Some holder) n)
 
+-- a node with its ancestors, by its place
+abbrev pub standing_at : Placed → Standing
+standing_at p = record { label = p.label; above = p.above }
+
 -- the space of the node of an id
-abbrev pub space : Contents → ℕ → Option Translation
-space page id = option_map (λ p. let n : Standing = record { label = p.label; above = p.above } in space_along page.viewport n (containing_block_chain n)) (placed_of page id)
+abbrev pub space : Contents → ℕ → Option Parts
+space page id = option_map (λ p. space_along page.viewport (standing_at p) (containing_block_chain (standing_at p))) (placed_of page id)
 
--- a point of the viewport in a space, in fine units
-abbrev pub point_in : Translation → ℤ → ℤ → FinePoint
-point_in space x y = record { x = pos 64 *ℤ (x -ℤ space.x); y = pos 64 *ℤ (y -ℤ space.y) }
+-- two numbers as a point in fine units
+abbrev pub fine_point : ℤ × ℤ → FinePoint
+fine_point at = record { x = at.0; y = at.1 }
 
--- a point of the viewport in the space of the node of an id
+-- a point of the viewport in the space of the node of an id: 64 times its exact preimage, rounded down, in fine units;
+-- none where the space is singular
 abbrev pub local_point : Contents → ℕ → ℤ → ℤ → Option FinePoint
-local_point page id x y = option_map (λ s. point_in s x y) (space page id)
+local_point page id x y = option_map fine_point (option_and_then (λ s. point_in s x y) (space page id))

@@ -1,14 +1,20 @@
-//! Where the nodes of a page stand.
+//! Where the nodes of a page stand, and what they inherit.
 //!
-//! It promises that the space of a node is the product of the factors that `specs/Spaces.antt` names, along its
-//! containing blocks and from the viewport inward, and that a local point is the point of the viewport in that space. It
-//! stands on `box_tree` for the page and its containing blocks, on `computed_style` for the borders and on `fractions`
-//! for the counter of steps.
+//! It promises that the space of a node is the product of the maps that `specs/Spaces.antt` names, along its containing
+//! blocks and from the viewport inward, that a local point is the exact preimage of the point of the viewport in that
+//! space, rounded down, that `within` says whether no product on the way to any node passes the bound on maps, and that
+//! the values of a node are those of `specs/Values.antt`, inherited from the root on down. It stands on `affine` for maps,
+//! on `box_tree` for the page and its containing blocks, on `computed_style` for the functions of transforms and for a
+//! step of inheritance, and on `fractions` for the counter of steps.
 #![tactic(auto)]
 
+mod bound;
+mod checked;
+mod factors;
 mod space;
+mod values;
 
-pub use space::{
-    FinePoint, Translation, bottom_border, left_border, local_point, plain_space, right_border,
-    top_border,
-};
+pub use bound::within;
+pub use factors::{bottom_border, left_border, right_border, top_border};
+pub use space::{FinePoint, local_point, plain_space};
+pub use values::plain_values;

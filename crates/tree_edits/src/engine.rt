@@ -1,10 +1,13 @@
-ghost use Rattle.std.specs.Prelude.{◌≡◌, ◌≢◌, ◌≤ℤ◌, ◌^◌, pos, IfOk, IfErr, OnOk, OnErr};
+ghost use Rattle.std.specs.Prelude.{◌≡◌, ◌≢◌, ◌≤ℤ◌, ◌^◌, pos, IsTrue, IfOk, IfErr, OnOk, OnErr};
 ghost use Rattle.box_tree.specs.declared.edit.EditFault.TheVariants.{OutOfMemory as MemoryFault};
 ghost use Rattle.box_tree.specs.Contents.{empty_page};
-ghost use Rattle.box_tree.specs.Edited.{IsInRange, first_fault, edited, answer_of};
+ghost use Rattle.box_tree.specs.Edited.{IsInRange, edited, answer_of};
+ghost use Rattle.spaces.specs.Bound.{is_bounded};
+ghost use Rattle.tree_edits.specs.Edits.{first_fault};
 
 use box_tree::{Done, Edit, EditFault, Page};
 use fractions::{Ledger, Steps};
+use spaces::within;
 use std::alloc::{AllocError, AllocFailed, Global};
 use std::marker::Model;
 use thiserror::Error;
@@ -26,7 +29,8 @@ impl<T: Drop> From<AllocFailed<T>> for OutOfMemory {
     }
 }
 
-/// A page that is edited and queried, which clauses see as its contents.
+/// A page that is edited and queried, which clauses see as its contents. No partial product of any of its nodes passes the
+/// bound on maps.
 #[derive(Drop)]
 pub struct Engine {
     page: Page,
@@ -43,6 +47,11 @@ impl Model for Engine {
     ghost coded = { let label : Coded Label = Prim.hlevel codes in Prim.hlevel (codes, forest_code label) };
 
     ghost view = { λ e. e.page.contents };
+
+    ghost use Rattle.std.specs.Prelude.{IsTrue};
+    ghost use Rattle.spaces.specs.Bound.{is_bounded};
+
+    ghost invariant = { λ e. IsTrue (is_bounded e.page.contents) };
 }
 
 impl Engine {
@@ -57,8 +66,9 @@ impl Engine {
         })
     }
 
-    /// Applies an edit, or refuses it by its first fault and changes nothing. Want of memory may come in place of any
-    /// other answer.
+    /// Applies an edit, or refuses it by its first fault and changes nothing, the next id neither. An edit that a map on
+    /// the way to a node would make pass the bound is carried out, found so and taken back. Want of memory may come in
+    /// place of any other answer.
     pub fn edit<L: Ledger>(&mut self, edit: &Edit, _steps: &mut Steps<L>) -> Result<Done, EditFault>
         requires { IsInRange edit.now }
         ensures faultless { OnOk result (first_fault self.old edit.now ≡ None) }
@@ -69,12 +79,18 @@ impl Engine {
     {
         let prepared = self.page.check(edit)?;
         let undo = self.page.commit(prepared);
-        Ok(self.page.settle(undo))
+        if within(&self.page) {
+            Ok(self.page.settle(undo))
+        } else {
+            self.page.revert(undo);
+            Err(EditFault::Bound)
+        }
     }
 
     /// The page as it stands.
     pub fn page(&self) -> &Page
-        ensures { result.now.contents ≡ self.now }
+        ensures contents { result.now.contents ≡ self.now }
+        ensures bounded { IsTrue (is_bounded result.now.contents) }
     {
         &self.page
     }

@@ -57,6 +57,7 @@ fn exchange(node: &mut Node, change: Change) -> Change
     match change {
         Change::Layout(layout) => Change::Layout(exchange_layout(node, layout)),
         Change::Style(style) => Change::Style(replace(&mut node.style, style)),
+        Change::Scroll(scroll) => Change::Scroll(replace(&mut node.scroll, scroll)),
     }
 }
 

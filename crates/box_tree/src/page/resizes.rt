@@ -33,6 +33,6 @@ impl Page {
     {
         let scroll = clamp(self.frame.viewport.scroll, max);
         self.frame.viewport = Viewport { w, h, scroll, max };
-        Taken::Resized
+        Taken::Untouched
     }
 }

@@ -41,7 +41,7 @@ pub(super) fn put_back(nodes: &mut Nodes, taken: Taken)
         Taken::Changed { id, change } => {
             change_node(nodes, id, change);
         }
-        Taken::Resized => {}
+        Taken::Untouched => {}
     }
 }
 
@@ -51,7 +51,7 @@ pub(super) fn answer_by(taken: &Taken) -> Done
 {
     match taken {
         Taken::Added { id, .. } => Done::Node { id: *id },
-        Taken::Removed { .. } | Taken::Moved { .. } | Taken::Changed { .. } | Taken::Resized => {
+        Taken::Removed { .. } | Taken::Moved { .. } | Taken::Changed { .. } | Taken::Untouched => {
             Done::Done
         }
     }

@@ -14,6 +14,7 @@ mod counts;
 mod kinds;
 mod layouts;
 mod reverts;
+mod scrolls;
 
 // A box of 100 by 100 units for each corner.
 fn boxes_at(alloc: Global, corners: &[(i64, i64)]) -> Result<PieceList, Fail> {
@@ -142,6 +143,7 @@ fn faults_have_their_names(rt: HostRuntime) {
         (EditFault::Place, Some(8), "place"),
         (EditFault::Deep, Some(9), "deep"),
         (EditFault::Full, Some(10), "full"),
+        (EditFault::Bound, Some(11), "bound"),
         (EditFault::OutOfMemory, None, "memory"),
     ] {
         assert_eq!(rt; fault.number(), number);

@@ -3,7 +3,7 @@ ghost use Rattle.box_tree.specs.Contents.{IsWithin};
 
 use super::*;
 use box_tree::{Edit, Kind, Piece, PieceList};
-use computed_style::{Position, Style};
+use computed_style::{PointerEvents, Position, Style};
 use fractions::{Blank, Brand, Spot};
 use std::process::Abort;
 use std::test::Fail;
@@ -294,6 +294,61 @@ fn a_text_is_hit_as_its_parent_and_borders_move_what_is_inside(
             (20, 6, &[2, 1]),
             (34, 14, &[2, 1]),
             (35, 14, &[1]),
+        ],
+        Blank::new(1),
+    )
+}
+
+// An edit that declares of a node whether it is visible, and its 'pointer-events'.
+fn declare(alloc: Global, id: u32, visible: Option<bool>, pointer: Option<PointerEvents>) -> Edit {
+    let mut style = Style::new(alloc);
+    style.visible = visible;
+    style.pointer = pointer;
+    Edit::Restyle { id, style }
+}
+
+#[test]
+fn hidden_boxes_and_those_without_pointer_events_are_passed_over(
+    rt: HostRuntime,
+) -> Result<(), Fail> {
+    let alloc = rt.alloc();
+    let none = [0, 0, 0, 0];
+    let sides = [(0, 0, 50, 50)];
+    let mut edits = vec![in alloc;
+        block(alloc, 0, 0, &[(0, 0, 100, 100)])?,
+        block(alloc, 1, 0, &sides)?,
+        block(alloc, 2, 0, &[(0, 0, 20, 20)])?,
+        placed(
+            alloc,
+            3,
+            0,
+            Kind::Text,
+            Position::Static,
+            none,
+            &[(0, 0, 30, 30)]
+        )?,
+        placed(alloc, 1, 1, Kind::Image, Position::Static, none, &sides)?,
+        declare(alloc, 2, None, Some(PointerEvents::None)),
+        declare(alloc, 5, Some(false), None),
+    ]?;
+    compare::<Brand>(
+        &rt,
+        alloc,
+        &edits,
+        &[(5, 5, &[1]), (25, 25, &[1])],
+        Blank::new(1),
+    )?;
+    edits.push(declare(alloc, 3, None, Some(PointerEvents::Stroke)))?;
+    edits.push(declare(alloc, 1, None, Some(PointerEvents::None)))?;
+    compare::<Brand>(
+        &rt,
+        alloc,
+        &edits,
+        &[
+            (5, 5, &[3, 1]),
+            (25, 25, &[3, 1]),
+            (35, 35, &[1]),
+            (60, 60, &[1]),
         ],
         Blank::new(1),
     )

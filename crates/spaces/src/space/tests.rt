@@ -1,48 +1,40 @@
 ghost use Rattle.std.specs.Prelude.{◌≡◌, ◌<◌};
 
 use super::*;
+use crate::within;
+use Function::{Matrix, Quarter, Scale, Translate};
 use Kind::{Block, Inline, Text};
 use Position::{Absolute, Fixed, Relative, Static};
+use affine::Parts;
 use box_tree::{Edit, Kind, Piece, PieceList};
-use computed_style::{Position, Style};
-use fractions::{Blank, Brand};
+use computed_style::{Function, Functions, Position, Style};
+use fractions::{Blank, Brand, Spot};
 use std::alloc::Global;
 use std::process::Abort;
 use std::test::Fail;
 
-fn box_at(alloc: Global, corner: Option<(i64, i64)>) -> Result<PieceList, Fail> {
+// A node to be added as the first child of its parent.
+#[derive(Drop)]
+struct Added {
+    parent: u32,
+    kind: Kind,
+    style: Style,
+    // the corner and the sides of its box
+    sides: Option<[i64; 4]>,
+}
+
+fn box_at(alloc: Global, sides: Option<[i64; 4]>) -> Result<PieceList, Fail> {
     let mut pieces = Vec::new(alloc);
-    if let Some((l, t)) = corner {
+    if let Some([l, t, w, h]) = sides {
         pieces.push(Piece {
             line: 0,
             l,
             t,
-            w: 50,
-            h: 50,
+            w,
+            h,
         })?;
     }
     Ok(PieceList(pieces))
-}
-
-// An add of a node as the first child of its parent.
-fn add(
-    alloc: Global,
-    parent: u32,
-    kind: Kind,
-    position: Position,
-    border: [i64; 4],
-    corner: Option<(i64, i64)>,
-) -> Result<Edit, Fail> {
-    let mut style = Style::new(alloc);
-    style.position = position;
-    style.border = border;
-    Ok(Edit::Add {
-        parent,
-        at: 0,
-        kind,
-        boxes: box_at(alloc, corner)?,
-        style,
-    })
 }
 
 fn apply(rt: &impl Abort, page: &mut Page, edit: &Edit) -> Result<(), Fail> {
@@ -53,7 +45,40 @@ fn apply(rt: &impl Abort, page: &mut Page, edit: &Edit) -> Result<(), Fail> {
     Ok(())
 }
 
-// The anchor of a node.
+fn add(rt: &impl Abort, alloc: Global, page: &mut Page, node: Added) -> Result<(), Fail> {
+    let edit = Edit::Add {
+        parent: node.parent,
+        at: 0,
+        kind: node.kind,
+        boxes: box_at(alloc, node.sides)?,
+        style: node.style,
+    };
+    apply(rt, page, &edit)
+}
+
+// A style with a position and borders.
+fn placed(alloc: Global, position: Position, border: [i64; 4]) -> Style {
+    let mut style = Style::new(alloc);
+    style.position = position;
+    style.border = border;
+    style
+}
+
+// A style with a transform around an origin.
+fn transformed(
+    alloc: Global,
+    functions: &[Function],
+    origin: Option<(i64, i64)>,
+) -> Result<Style, Fail> {
+    let mut style = Style::new(alloc);
+    let mut list = Vec::new(alloc);
+    list.extend_from_slice(functions)?;
+    style.transform = Functions(list);
+    style.origin = origin;
+    Ok(style)
+}
+
+// The anchor of a node without a box.
 fn anchor(rt: &impl Abort, alloc: Global, page: &mut Page, id: u32, by: Spot) -> Result<(), Fail> {
     let edit = Edit::Place {
         id,
@@ -80,17 +105,57 @@ fn bordered(rt: &impl Abort, alloc: Global) -> Result<Page, Fail> {
         (8, Block, Static, none, None),
         (9, Inline, Absolute, none, None),
     ] {
-        let edit = add(alloc, parent, kind, position, border, corner)?;
-        apply(rt, &mut page, &edit)?;
+        let node = Added {
+            parent,
+            kind,
+            style: placed(alloc, position, border),
+            sides: corner.map(|(l, t)| [l, t, 50, 50]),
+        };
+        add(rt, alloc, &mut page, node)?;
     }
     anchor(rt, alloc, &mut page, 8, Spot { x: -3, y: 4 })?;
+    Ok(page)
+}
+
+// A page of nodes in a root, some of them transformed.
+fn turned(rt: &impl Abort, alloc: Global) -> Result<Page, Fail> {
+    let by_5 = Matrix {
+        a: 3,
+        b: 4,
+        c: -4,
+        d: 3,
+        e: 0,
+        f: 0,
+        q: 5,
+    };
+    let twice = Scale { x: 2, y: 2, q: 1 };
+    let flat = Scale { x: 0, y: 1, q: 1 };
+    let moved = Translate { x: 5, y: 0 };
+    let turn = Quarter { turns: 1 };
+    let mut page = Page::new(alloc, 81_920, 46_080);
+    for (parent, kind, functions, origin, sides) in [
+        (0, Block, [].as_slice(), None, Some([0, 0, 100, 100])),
+        (1, Block, [by_5].as_slice(), None, Some([-10, -10, 20, 20])),
+        (1, Block, [twice].as_slice(), None, Some([0, 0, 3, 5])),
+        (1, Block, [moved, turn].as_slice(), Some((1, 2)), Some([10, 20, 3, 5])),
+        (1, Inline, [twice].as_slice(), None, Some([1, 2, 3, 5])),
+        (1, Block, [flat].as_slice(), Some((7, 0)), None),
+    ] {
+        let node = Added {
+            parent,
+            kind,
+            style: transformed(alloc, functions, origin)?,
+            sides,
+        };
+        add(rt, alloc, &mut page, node)?;
+    }
     Ok(page)
 }
 
 fn compare<L: Ledger>(
     rt: &impl Abort,
     page: &Page,
-    spaces: &[(u32, Translation, FinePoint)],
+    spaces: &[(u32, Parts, Option<FinePoint>)],
     blank: Blank,
 )
     requires name { blank.name ≡ L.name }
@@ -98,19 +163,33 @@ fn compare<L: Ledger>(
     requires some_parts { 0 < blank.parts }
 {
     let mut steps = Steps::<L>::new(blank);
-    for &(id, space, local) in spaces {
-        assert!(rt; page.has(id));
-        assert_eq!(rt; plain_space(page, id, &mut steps), space, "{id}");
-        assert_eq!(rt; local_point(page, id, 20, 30, &mut steps), local, "{id}");
+    assert!(rt; within(page));
+    for (id, parts, local) in spaces {
+        assert!(rt; page.has(*id));
+        let space = plain_space(page, *id, &mut steps);
+        assert_eq!(rt; space.map(|map| map.parts()), Some(*parts), "{id}");
+        assert_eq!(rt; local_point(page, *id, 20, 30, &mut steps), *local, "{id}");
     }
 }
 
-fn by(x: i128, y: i128) -> Translation {
-    Translation { x, y }
+fn by(x: i128, y: i128) -> Parts {
+    map([1, 0, 0, 1], x, y, 1)
 }
 
-fn at(x: i128, y: i128) -> FinePoint {
-    FinePoint { x, y }
+fn map([a, b, c, d]: [i128; 4], e: i128, f: i128, q: i128) -> Parts {
+    Parts {
+        a,
+        b,
+        c,
+        d,
+        e,
+        f,
+        q,
+    }
+}
+
+fn at(x: i128, y: i128) -> Option<FinePoint> {
+    Some(FinePoint { x, y })
 }
 
 #[test]
@@ -127,6 +206,20 @@ fn spaces_begin_at_padding_corners(rt: HostRuntime) -> Result<(), Fail> {
         (8, by(106, 214), at(-5504, -11776)),
         (9, by(106, 214), at(-5504, -11776)),
         (10, by(108, 209), at(-5632, -11456)),
+    ];
+    compare::<Brand>(&rt, &page, &spaces, Blank::new(1));
+    Ok(())
+}
+
+#[test]
+fn transforms_turn_around_their_origins(rt: HostRuntime) -> Result<(), Fail> {
+    let page = turned(&rt, rt.alloc())?;
+    let spaces = [
+        (2, map([3, 4, -4, 3], 0, 0, 5), at(2304, 128)),
+        (3, map([4, 0, 0, 4], -3, -5, 2), at(688, 1040)),
+        (4, map([0, 1, -1, 0], 38, 11, 1), at(1216, 1152)),
+        (5, by(0, 0), at(1280, 1920)),
+        (6, map([0, 0, 0, 1], 7, 0, 1), None),
     ];
     compare::<Brand>(&rt, &page, &spaces, Blank::new(1));
     Ok(())

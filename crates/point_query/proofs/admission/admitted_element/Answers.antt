@@ -1,4 +1,4 @@
--- The area of the item holds the local point of its node, or doesn't.
+-- The row of the item holds at the local point of its node, or doesn't.
 use Rattle.std.proofs.Common.{◌≡◌, ℕ, [], ◌∷◌, Bool, if◌then◌else◌, sym, ap, ◌∙◌, arith}
 use Rattle.std.proofs.lemmas.Int.{ints}
 use mir.Syntax.{w64}
@@ -7,21 +7,21 @@ use Rattle.point_query.specs.Elements.{element_as}
 use Rattle.point_query.proofs.AdmissionLemmas.{elements_of-seen}
 use Rattle.point_query.proofs.admission.admitted_element.Goals as goal
 
-pub returns-then-part_holds : goal.returns-then-part_holds
-returns-then-part_holds g c =
+pub returns-then-admits_at : goal.returns-then-admits_at
+returns-then-admits_at g c =
     let node = c.node-node.result.now in
     let x_is : to_z w64 (of_z w64 c.args.x) ≡ c.args.x = omega (arith, ints) in
     let y_is : to_z w64 (of_z w64 c.args.y) ≡ c.args.y = omega (arith, ints) in
     let at_is = rw (x_is, y_is) at c.local_point-at.ensures in
-    sym (elements_of-seen c.args.page.now.contents c.args.x c.args.y c.args.item node c.local_point-at.result c.node-node.ensures.node at_is
-    ∙ ap (λ (held : Bool). if held then element_as node.kind node.parent node.id ∷ [] else []) (sym c.part_holds.ensures ∙ c.if-part_holds.true)
+    sym (elements_of-seen c.args.page.now.contents c.args.x c.args.y c.args.item node c.local_point-at.result c.plain_values-values.result c.node-node.ensures.node (sym at_is) c.plain_values-values.ensures
+    ∙ ap (λ (held : Bool). if held then element_as node.kind node.parent node.id ∷ [] else []) (sym c.admits_at.ensures ∙ c.if-admits_at.true)
     ∙ ap (λ (element : ℕ). element ∷ []) (sym c.element_of.ensures))
 
-pub returns-else-part_holds : goal.returns-else-part_holds
-returns-else-part_holds g c =
+pub returns-else-admits_at : goal.returns-else-admits_at
+returns-else-admits_at g c =
     let node = c.node-node.result.now in
     let x_is : to_z w64 (of_z w64 c.args.x) ≡ c.args.x = omega (arith, ints) in
     let y_is : to_z w64 (of_z w64 c.args.y) ≡ c.args.y = omega (arith, ints) in
     let at_is = rw (x_is, y_is) at c.local_point-at.ensures in
-    sym (elements_of-seen c.args.page.now.contents c.args.x c.args.y c.args.item node c.local_point-at.result c.node-node.ensures.node at_is
-    ∙ ap (λ (held : Bool). if held then element_as node.kind node.parent node.id ∷ [] else []) (sym c.part_holds.ensures ∙ c.if-part_holds.false))
+    sym (elements_of-seen c.args.page.now.contents c.args.x c.args.y c.args.item node c.local_point-at.result c.plain_values-values.result c.node-node.ensures.node (sym at_is) c.plain_values-values.ensures
+    ∙ ap (λ (held : Bool). if held then element_as node.kind node.parent node.id ∷ [] else []) (sym c.admits_at.ensures ∙ c.if-admits_at.false))

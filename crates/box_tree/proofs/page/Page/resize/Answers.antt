@@ -5,7 +5,7 @@ use mir.Syntax.{w64}
 use mir.Val.{to_z, of_z}
 use Rattle.fractions.specs.declared.rect.Spot.{Spot}
 use Rattle.box_tree.specs.declared.plan.Plan.TheVariants.{ResizeViewport}
-use Rattle.box_tree.specs.declared.plan.Taken.TheVariants.{Resized}
+use Rattle.box_tree.specs.declared.plan.Taken.TheVariants.{Untouched}
 use Rattle.box_tree.specs.declared.viewport.Viewport.{Viewport}
 use Rattle.box_tree.specs.Edited.{edited, answer_of}
 use Rattle.box_tree.specs.PageState.{PageState}
@@ -14,7 +14,7 @@ use Rattle.box_tree.proofs.PlanLemmas.{state_of, Carries, taken_as}
 use Rattle.box_tree.proofs.PlaceLemmas.{planned-resize}
 use Rattle.box_tree.proofs.page.Page.resize.Goals as goal
 
-carried : (c : goal.After-self-1) → Carries c.self.inside.nodes (record c.self.inside.frame { viewport = record { w = c.args.w; h = c.args.h; scroll = c.clamp-scroll.result; max = c.args.max } }) Resized (state_of c.self.inside.nodes c.self.inside.frame) c.args.edit.now.value
+carried : (c : goal.After-self-1) → Carries c.self.inside.nodes (record c.self.inside.frame { viewport = record { w = c.args.w; h = c.args.h; scroll = c.clamp-scroll.result; max = c.args.max } }) Untouched (state_of c.self.inside.nodes c.self.inside.frame) c.args.edit.now.value
 carried c =
     let seen : Spot → Viewport = (λ scroll. record { w = c.args.w; h = c.args.h; scroll = scroll; max = c.args.max }) in
     planned-resize c.self.inside.nodes c.self.inside.frame (record c.self.inside.frame { viewport = record { w = c.args.w; h = c.args.h; scroll = c.clamp-scroll.result; max = c.args.max } }) c.args.w c.args.h c.args.max c.args.edit.now.value c.self.invariant

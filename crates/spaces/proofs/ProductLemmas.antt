@@ -1,0 +1,57 @@
+-- Products that are none once one of them passes the bound: where none does, they are the products.
+use Rattle.std.proofs.Common.{◌≡◌, List, [], ◌∷◌, ◌++◌, Option, Some, None, Bool, true, false, if◌then◌else◌, refl, sym, ap, ◌∙◌}
+use Rattle.std.specs.Prelude.{fold, ◌&&◌}
+use Rattle.std.specs.List.{list_all}
+use Rattle.affine.specs.declared.map.Parts.{Parts}
+use Rattle.affine.specs.Map.{product}
+use Rattle.spaces.specs.Bound.{is_within_bound, products_after}
+use Rattle.spaces.specs.Checked.{then_product, checked_products}
+
+-- whether no product after one of these factors passes the bound
+abbrev pub all_within : Parts → List Parts → Bool
+all_within start factors = list_all is_within_bound (products_after start factors)
+
+-- some factors and then others
+pub checked-append : (start : Option Parts) (first others : List Parts) → checked_products start (first ++ others) ≡ checked_products (checked_products start first) others
+checked-append start [] others = refl
+checked-append start (factor ∷ first) others = checked-append (then_product start factor) first others
+
+checked-none : (factors : List Parts) → checked_products None factors ≡ None
+checked-none [] = refl
+checked-none (factor ∷ factors) = checked-none factors
+
+-- the products, where none passes the bound
+pub checked-fold : (start : Parts) (factors : List Parts) → checked_products (Some start) factors ≡ (if all_within start factors then Some (fold product start factors) else None)
+checked-fold start [] = refl
+checked-fold start (factor ∷ factors) = by_test (checked-fold (product start factor) factors) (is_within_bound (product start factor))
+  where
+    by_test : checked_products (Some (product start factor)) factors ≡ (if all_within (product start factor) factors then Some (fold product (product start factor) factors) else None) →
+        (b : Bool) → checked_products (if b then Some (product start factor) else None) factors ≡ (if b && all_within (product start factor) factors then Some (fold product (product start factor) factors) else None)
+    by_test deeper true = deeper
+    by_test deeper false = checked-none factors
+
+pub checked-all : (start : Parts) (factors : List Parts) → all_within start factors ≡ true → checked_products (Some start) factors ≡ Some (fold product start factors)
+checked-all start factors within = checked-fold start factors ∙ ap (λ (b : Bool). if b then Some (fold product start factors) else None) within
+
+-- what is known where the products are some
+pub record IsChecked (m start : Parts) (factors : List Parts) : Type 0 where
+  pub value : fold product start factors ≡ m
+  pub within : all_within start factors ≡ true
+
+pub checked-some : (m start : Parts) (factors : List Parts) → checked_products (Some start) factors ≡ Some m → IsChecked m start factors
+checked-some m start factors is = by_test (all_within start factors) refl (sym (checked-fold start factors) ∙ is)
+  where
+    by_test : (b : Bool) → all_within start factors ≡ b → (if b then Some (fold product start factors) else None) ≡ Some m → IsChecked m start factors
+    by_test true within is' = record { value = cc; within = within }
+    by_test false within is' = absurd cc
+
+pub checked-nothing : (m : Parts) (factors : List Parts) → checked_products None factors ≡ Some m → ⊥
+checked-nothing m factors is = by_value (checked_products None factors) (checked-none factors) is
+  where
+    by_value : (o : Option Parts) → o ≡ None → o ≡ Some m → ⊥
+    by_value None none some = cc
+    by_value (Some k) none some = cc
+
+-- one factor, some others, and one more
+pub checked-between : (start : Option Parts) (first last : Parts) (factors : List Parts) → checked_products start (first ∷ (factors ++ last ∷ [])) ≡ then_product (checked_products (then_product start first) factors) last
+checked-between start first last factors = checked-append (then_product start first) factors (last ∷ [])

@@ -1,0 +1,49 @@
+ghost use Rattle.std.specs.Prelude.{◌≡◌, ◌<◌, [], IsTrue};
+ghost use Rattle.box_tree.specs.Contents.{has_id, IsValid};
+ghost use Rattle.spaces.specs.Bound.{is_bounded};
+ghost use Rattle.spaces.specs.Checked.{are_checked, is_checked_from};
+
+use crate::checked::checked_space;
+use box_tree::Page;
+use fractions::{Blank, Brand, Ledger, Steps};
+
+/// Whether no partial product of any node of the page passes the bound on maps: the product after each factor of its
+/// space. The steps are counted by a counter of its own.
+pub fn within(page: &Page) -> bool
+    ensures { result ≡ is_bounded page.now.contents }
+{
+    page.validity();
+    within_with::<Brand>(page, Blank::new(1))
+}
+
+// The same, with the ledger for the counter.
+fn within_with<L: Ledger>(page: &Page, blank: Blank) -> bool
+    requires valid { IsValid page.now.contents }
+    requires name { blank.name ≡ L.name }
+    requires parts { blank.parts ≡ L.parts }
+    requires some_parts { 0 < blank.parts }
+    ensures { result ≡ are_checked page.now.contents.viewport [] page.now.contents.tree }
+{
+    match page.root() {
+        Some(root) => is_checked_from(page, root, &mut Steps::<L>::new(blank)),
+        None => true,
+    }
+}
+
+// Whether no product on the way to a node, or to one below it, passes the bound.
+fn is_checked_from<L: Ledger>(page: &Page, id: u32, steps: &mut Steps<L>) -> bool
+    requires valid { IsValid page.now.contents }
+    requires there { IsTrue (has_id page.now.contents id) }
+    ensures { result ≡ is_checked_from page.now.contents id }
+{
+    if checked_space(page, id, steps).is_none() {
+        return false;
+    }
+    let node = page.node(id, steps);
+    for child in node.children.as_slice() {
+        if !is_checked_from(page, *child, steps) {
+            return false;
+        }
+    }
+    true
+}

@@ -1,0 +1,127 @@
+// Spaces, and none once a product on the way there passes the bound.
+ghost use Rattle.std.specs.Prelude.{◌≡◌, All, IsTrue, Some, map};
+ghost use Rattle.std.specs.Option.{option_map, option_copied};
+ghost use Rattle.affine.specs.Function.{function_map};
+ghost use Rattle.computed_style.specs.Ranges.{IsFunctionInRange};
+ghost use Rattle.box_tree.specs.Contents.{has_id, node_of, IsValid};
+ghost use Rattle.box_tree.specs.Kept.{label_of};
+ghost use Rattle.spaces.specs.Spaces.{padding_corner, transform_around, doubled_origin, first_box, own_factors};
+ghost use Rattle.spaces.specs.Checked.{then_product, checked_products, checked_space, own_factors_of};
+ghost use Rattle.spaces.specs.Sizes.{HasNumbersInRange, IsOriginInRange};
+
+use crate::factors::{
+    doubled_origin, from_origin, moving_by, padding_corner, scrolled, to_origin,
+};
+use affine::{Map, compose, identity, matrix};
+use box_tree::{Holder, Node, Page, is_transformed};
+use computed_style::{Function, Functions};
+use fractions::{Ledger, Spot, Steps};
+
+// The space of a node, where no product on the way there passes the bound: along its containing blocks (CSS 2.2, 10.1),
+// at most 256 of them.
+pub(crate) fn checked_space<L: Ledger>(page: &Page, id: u32, steps: &mut Steps<L>) -> Option<Map>
+    requires valid { IsValid page.now.contents }
+    requires there { IsTrue (has_id page.now.contents id) }
+    ensures { result ≡ checked_space page.now.contents id }
+{
+    match page.containing_block(id) {
+        Holder::Node { id: holder } => {
+            let outer = checked_space(page, holder, steps);
+            let around = inside(outer, page.node(holder, steps));
+            own_space(page, id, around, steps)
+        }
+        Holder::Initial => own_space(page, id, Some(scrolled(&page.viewport())), steps),
+        Holder::Viewport => own_space(page, id, Some(identity()), steps),
+    }
+}
+
+// From the space of a containing block to where it places: its padding corner, where it has a box.
+fn inside(outer: Option<Map>, holder: &Node) -> Option<Map>
+    requires { HasNumbersInRange (label_of holder.now) }
+    ensures { result ≡ checked_products outer (padding_corner (label_of holder.now)) }
+{
+    match padding_corner(holder) {
+        Some(corner) => product(outer, &corner),
+        None => outer,
+    }
+}
+
+// From where a containing block places to the space of the node of an id.
+fn own_space<L: Ledger>(
+    page: &Page,
+    id: u32,
+    around: Option<Map>,
+    steps: &mut Steps<L>,
+) -> Option<Map>
+    requires valid { IsValid page.now.contents }
+    requires there { IsTrue (has_id page.now.contents id) }
+    ensures { result ≡ checked_products around (own_factors_of page.now.contents id) }
+{
+    let node = page.node(id, steps);
+    let parent = find(page, node.parent, steps);
+    own(around, parent, node)
+}
+
+// The node of an id, where it is in the page.
+fn find<'a, L: Ledger>(page: &'a Page, id: u32, steps: &mut Steps<L>) -> Option<&'a Node>
+    ensures { option_copied result ≡ node_of page.now.contents id }
+{
+    if page.has(id) {
+        Some(page.node(id, steps))
+    } else {
+        None
+    }
+}
+
+// The factors of a node itself after a map.
+fn own(around: Option<Map>, parent: Option<&Node>, node: &Node) -> Option<Map>
+    requires { HasNumbersInRange (label_of node.now) }
+    ensures { result ≡ checked_products around (own_factors (option_map label_of (option_copied parent.entry)) (label_of node.now)) }
+{
+    if is_transformed(parent, node) {
+        transformed(around, node, doubled_origin(node))
+    } else {
+        product(around, &moving_by(node.anchor))
+    }
+}
+
+// The factors of the transform of a node after a map, around an origin that is given twice.
+fn transformed(around: Option<Map>, node: &Node, doubled: Spot) -> Option<Map>
+    requires numbers { HasNumbersInRange (label_of node.now) }
+    requires origin { IsOriginInRange doubled }
+    ensures { result ≡ checked_products around (transform_around (label_of node.now) doubled) }
+{
+    let moved = product(around, &to_origin(node.anchor, doubled));
+    let turned = after_functions(moved, &node.style.transform);
+    product(turned, &from_origin(doubled))
+}
+
+// A map and then these functions in their order.
+fn after_functions(start: Option<Map>, functions: &Functions) -> Option<Map>
+    requires { All IsFunctionInRange functions.now }
+    ensures { result ≡ checked_products start (map function_map functions.now) }
+{
+    let mut all = start;
+    for function in &functions.0 {
+        all = product(all, &map_of(function));
+    }
+    all
+}
+
+// The map of a function whose numbers are in the ranges of a style.
+fn map_of(function: &Function) -> Map
+    requires { IsFunctionInRange function.now }
+    ensures { result ≡ function_map function.now }
+{
+    matrix(function)
+}
+
+// One map more, where there is a product and the next one is within the bound.
+fn product(outer: Option<Map>, inner: &Map) -> Option<Map>
+    ensures { result ≡ then_product outer inner.now }
+{
+    match outer {
+        Some(outer) => compose(&outer, inner),
+        None => None,
+    }
+}

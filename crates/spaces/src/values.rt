@@ -1,0 +1,48 @@
+// The values that a node inherits.
+ghost use Rattle.std.specs.Prelude.{◌≡◌, Some, IsTrue};
+ghost use Rattle.box_tree.specs.Contents.{has_id, IsValid};
+ghost use Rattle.box_tree.specs.Edited.{ancestors_below};
+ghost use Rattle.box_tree.specs.Suits.{is_text as names_text};
+ghost use Rattle.spaces.specs.Values.{values_along, values};
+
+use box_tree::{Kind, Page};
+use computed_style::{Inherited, compute};
+use fractions::{Ledger, Steps};
+
+/// The values of a node: each that is declared on the node, and else the one of its parent, from the initial values
+/// above the root on down (CSS Cascading and Inheritance 4, "Inheritance"). A text takes its parent's. It reads the
+/// node and its ancestors, at most 256 of them.
+pub fn plain_values<L: Ledger>(page: &Page, id: u32, steps: &mut Steps<L>) -> Inherited
+    requires { IsTrue (has_id page.now.contents id) }
+    ensures { values page.now.contents id ≡ Some result }
+{
+    page.validity();
+    let node = page.node(id, steps);
+    if is_text(node.kind) {
+        values_from(page, node.parent, steps)
+    } else {
+        values_from(page, id, steps)
+    }
+}
+
+// The values of an element and its ancestors, the initial ones above the root.
+fn values_from<L: Ledger>(page: &Page, id: u32, steps: &mut Steps<L>) -> Inherited
+    requires { IsValid page.now.contents }
+    ensures { result ≡ values_along (ancestors_below page.now.contents id) }
+{
+    if !page.has(id) {
+        return Inherited::initial();
+    }
+    let node = page.node(id, steps);
+    let above = values_from(page, node.parent, steps);
+    compute(&above, &node.style)
+}
+
+fn is_text(kind: Kind) -> bool
+    ensures { result ≡ names_text kind }
+{
+    kind == Kind::Text
+}
+
+#[cfg(test)]
+mod tests;
