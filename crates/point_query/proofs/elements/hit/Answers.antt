@@ -1,14 +1,15 @@
 -- The items of the page, from top to bottom, give the elements of the definition.
-use Rattle.std.proofs.Common.{◌≡◌, [], true, Bool, List, reverse, if◌then◌else◌, sym, ap, ◌∙◌, arith}
+use Rattle.std.proofs.Common.{◌≡◌, [], true, Bool, List, reverse, if◌then◌else◌, subst, sym, ap, ◌∙◌, arith}
 use Rattle.std.proofs.lemmas.Int.{ints}
 use mir.Syntax.{w64}
 use mir.Val.{to_z, of_z}
 use Rattle.box_tree.specs.declared.item.Item.{Item}
 use Rattle.box_tree.specs.Forest.{roots_of}
-use Rattle.box_tree.specs.Contents.{Contents}
+use Rattle.box_tree.specs.Contents.{Contents, IsViewport}
 use Rattle.stacking.specs.Painting.{layer}
 use Rattle.stacking.specs.OnPage.{of_node}
 use Rattle.point_query.proofs.RootLemmas.{root-there}
+use Rattle.point_query.proofs.InsideLemmas.{x-within, y-within}
 use Rattle.point_query.specs.Elements.{is_inside, elements_of, elements_with, elements_from_point, each_once, then_root}
 use Rattle.point_query.proofs.elements.hit.Goals as goal
 
@@ -27,4 +28,18 @@ returns g c =
     c.in_ok-end_with.ensures
     ∙ ap (then_root c.in-Some.root) (c.in_ok-ids.ensures ∙ ap each_once (c.deref-2.ensures.value ∙ elements ∙ ap (elements_of page c.args.x c.args.y) items))
     ∙ sym (ap (λ (b : Bool). if b then elements_with page c.args.x c.args.y (roots_of page.tree) else []) inside ∙ ap (elements_with page c.args.x c.args.y) (sym c.in-Some.ensures.root))
-    ∙ ap (λ (p : Contents). elements_from_point p c.args.x c.args.y) c.page-page.ensures
+    ∙ ap (λ (p : Contents). elements_from_point p c.args.x c.args.y) c.page-page.ensures.contents
+
+pub admitted_elements-requires-clause-x : goal.admitted_elements-requires-clause-x
+admitted_elements-requires-clause-x g c =
+    let viewport = c.viewport-viewport.result in
+    let v_is : viewport ≡ c.page-page.result.now.contents.viewport = c.viewport-viewport.ensures in
+    let is_viewport : IsViewport viewport = subst IsViewport (sym v_is) c.validity.ensures.viewport in
+    x-within viewport _ _ is_viewport (sym c.holds_point.ensures ∙ c.if-not-holds_point.false)
+
+pub admitted_elements-requires-clause-y : goal.admitted_elements-requires-clause-y
+admitted_elements-requires-clause-y g c =
+    let viewport = c.viewport-viewport.result in
+    let v_is : viewport ≡ c.page-page.result.now.contents.viewport = c.viewport-viewport.ensures in
+    let is_viewport : IsViewport viewport = subst IsViewport (sym v_is) c.validity.ensures.viewport in
+    y-within viewport _ _ is_viewport (sym c.holds_point.ensures ∙ c.if-not-holds_point.false)
