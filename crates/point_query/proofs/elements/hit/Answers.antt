@@ -35,11 +35,11 @@ admitted_elements-requires-clause-x g c =
     let viewport = c.viewport-viewport.result in
     let v_is : viewport ≡ c.page-page.result.now.contents.viewport = c.viewport-viewport.ensures in
     let is_viewport : IsViewport viewport = subst IsViewport (sym v_is) c.validity.ensures.viewport in
-    x-within viewport _ _ is_viewport (sym c.holds_point.ensures ∙ c.if-not-holds_point.false)
+    x-within viewport (to_z w64 (of_z w64 c.args.x)) (to_z w64 (of_z w64 c.args.y)) is_viewport (sym c.holds_point.ensures ∙ c.if-not-holds_point.false)
 
 pub admitted_elements-requires-clause-y : goal.admitted_elements-requires-clause-y
 admitted_elements-requires-clause-y g c =
     let viewport = c.viewport-viewport.result in
     let v_is : viewport ≡ c.page-page.result.now.contents.viewport = c.viewport-viewport.ensures in
     let is_viewport : IsViewport viewport = subst IsViewport (sym v_is) c.validity.ensures.viewport in
-    y-within viewport _ _ is_viewport (sym c.holds_point.ensures ∙ c.if-not-holds_point.false)
+    y-within viewport (to_z w64 (of_z w64 c.args.x)) (to_z w64 (of_z w64 c.args.y)) is_viewport (sym c.holds_point.ensures ∙ c.if-not-holds_point.false)
