@@ -1,5 +1,6 @@
 pub mod Blank
 pub mod Command
+pub mod Inherited
 pub mod Numbers
 pub mod Reply
 pub mod Style

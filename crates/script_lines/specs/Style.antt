@@ -9,6 +9,7 @@ use Rattle.computed_style.specs.declared.style.Position.{Position}
 use Rattle.computed_style.specs.declared.style.Position.TheVariants.{Static, Relative, Absolute, Fixed}
 use Rattle.computed_style.specs.declared.style.Style.{Style}
 use Rattle.script_lines.specs.Numbers.{◌>>=◌, number_within, number_to, is_array_of}
+use Rattle.script_lines.specs.Inherited.{with_inherited_key}
 use Rattle.script_lines.specs.Transform.{transform_of, origin_of}
 
 abbrev pub position_named : List ℕ → Option Position
@@ -58,7 +59,8 @@ border_widths d = do
 unfoldable pub border_of : Data → Option (List ℤ)
 border_of d = if is_array_of 4 d then border_widths d else None
 
--- a style with the value of one key more that takes no list, by the row of the key; a name that has no row is none
+-- a style with the value of one key more that takes no list, by the row of the key, here or among the inherited ones; a name
+-- that has no row is none
 unfoldable pub with_plain_key : List ℕ → Data → Style → Option Style
 with_plain_key key d s =
     if bytes_eq key (codes "position") then option_map (λ position. record s { position = position }) (as_str d >>= position_named)
@@ -68,7 +70,7 @@ with_plain_key key d s =
     else if bytes_eq key (codes "border") then option_map (λ border. record s { border = border }) (border_of d)
     else if bytes_eq key (codes "display") then option_map (λ block. record s { display_block = block }) (as_str d >>= block_named)
     else if bytes_eq key (codes "origin") then option_map (λ origin. record s { origin = Some origin }) (origin_of d)
-    else None
+    else with_inherited_key key d s
 
 -- a style with the value of one key more, by the row of the key
 unfoldable pub with_key : List ℕ → Data → Style → Option Style

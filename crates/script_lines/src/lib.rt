@@ -6,6 +6,7 @@
 #![tactic(auto)]
 
 mod command;
+mod inherited;
 mod reply;
 mod rows;
 mod style;

@@ -7,6 +7,7 @@ ghost use Rattle.computed_style.specs.Ranges.{IsSide, IsStyleInRange};
 ghost use Rattle.script_lines.specs.Transform.{transform_of};
 ghost use Rattle.script_lines.specs.Style.{position_named, floats_named, block_named, z_of, opacity_of, width_of, border_of, with_plain_key, with_key, each_key, style_of};
 
+use crate::inherited::declare_inherited;
 use crate::transform::{origin_from, transform_from};
 use crate::values::{is_array_of, number_to, number_within};
 use computed_style::{Position, Style};
@@ -88,7 +89,7 @@ fn declare_plain(style: &mut Style, key: &str, value: &Value) -> Option<()>
         "border" => style.border = border_from(value)?,
         "display" => style.display_block = block_from(value)?,
         "origin" => style.origin = Some(origin_from(value)?),
-        _ => return None,
+        _ => return declare_inherited(style, key, value),
     }
     Some(())
 }

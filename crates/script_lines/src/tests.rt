@@ -2,7 +2,7 @@
 
 use crate::{Command, LineFault, Reply, command_of, is_blank, print};
 use box_tree::{Edit, EditFault, Kind};
-use computed_style::{Function, Position, Style};
+use computed_style::{Ends, Function, PointerEvents, Position, Rule, Style};
 use std::alloc::Global;
 use std::process::Abort;
 use std::test::Fail;
@@ -226,7 +226,6 @@ fn each_key_of_a_style_has_its_least_and_its_greatest_value(rt: HostRuntime) -> 
             Some((Position::Fixed, false, Some(0), 5, [0; 4], true)),
         ),
         (r#"{"radii":[0,0,0,0,0,0,0,0]}"#, None),
-        (r#"{"visibility":"visible"}"#, None),
         (r#"{"zindex":1}"#, None),
         (r#"[]"#, None),
         (r#"null"#, None),
@@ -370,6 +369,146 @@ fn a_transform_has_at_most_sixteen_functions_and_an_origin(rt: HostRuntime) -> R
         (r#"{"origin":[0,0,0]}"#, None),
     ] {
         let set = added(alloc, r#""block""#, text)?.map(|node| transform_and_origin(&node.1));
+        assert_eq!(rt; set, expected, "{text}");
+    }
+    Ok(())
+}
+
+// What the inherited keys set.
+#[derive(Clone, Copy, Debug, PartialEq)]
+struct Given {
+    visible: Option<bool>,
+    pointer: Option<PointerEvents>,
+    fill: Option<bool>,
+    stroke: Option<bool>,
+    stroke_width: Option<i64>,
+    rule: Option<Rule>,
+    ends: Option<Ends>,
+}
+
+const NOTHING: Given = Given {
+    visible: None,
+    pointer: None,
+    fill: None,
+    stroke: None,
+    stroke_width: None,
+    rule: None,
+    ends: None,
+};
+
+fn given_by(style: &Style) -> Given {
+    Given {
+        visible: style.visible,
+        pointer: style.pointer,
+        fill: style.fill,
+        stroke: style.stroke,
+        stroke_width: style.stroke_width,
+        rule: style.rule,
+        ends: style.ends,
+    }
+}
+
+fn pointer(value: PointerEvents) -> Option<Given> {
+    Some(Given {
+        pointer: Some(value),
+        ..NOTHING
+    })
+}
+
+fn visible(value: bool) -> Option<Given> {
+    Some(Given {
+        visible: Some(value),
+        ..NOTHING
+    })
+}
+
+fn width(value: i64) -> Option<Given> {
+    Some(Given {
+        stroke_width: Some(value),
+        ..NOTHING
+    })
+}
+
+fn ends(value: Ends) -> Option<Given> {
+    Some(Given {
+        ends: Some(value),
+        ..NOTHING
+    })
+}
+
+#[test]
+fn each_inherited_key_has_its_values(rt: HostRuntime) -> Result<(), Fail> {
+    let alloc = rt.alloc();
+    let all = Given {
+        visible: Some(true),
+        pointer: Some(PointerEvents::All),
+        fill: Some(false),
+        stroke: Some(true),
+        stroke_width: Some(4096),
+        rule: Some(Rule::NonZero),
+        ends: Some(Ends::Butt),
+    };
+    let other = Given {
+        fill: Some(true),
+        stroke: Some(false),
+        rule: Some(Rule::EvenOdd),
+        ..NOTHING
+    };
+    for (text, expected) in [
+        (r#""visibility":"visible""#, visible(true)),
+        (r#""visibility":"hidden""#, visible(false)),
+        (r#""visibility":"collapse""#, visible(false)),
+        (r#""visibility":"none""#, None),
+        (r#""pointer-events":"auto""#, pointer(PointerEvents::Auto)),
+        (r#""pointer-events":"none""#, pointer(PointerEvents::None)),
+        (
+            r#""pointer-events":"visiblePainted""#,
+            pointer(PointerEvents::VisiblePainted),
+        ),
+        (
+            r#""pointer-events":"visibleFill""#,
+            pointer(PointerEvents::VisibleFill),
+        ),
+        (
+            r#""pointer-events":"visibleStroke""#,
+            pointer(PointerEvents::VisibleStroke),
+        ),
+        (
+            r#""pointer-events":"visible""#,
+            pointer(PointerEvents::Visible),
+        ),
+        (
+            r#""pointer-events":"painted""#,
+            pointer(PointerEvents::Painted),
+        ),
+        (r#""pointer-events":"fill""#, pointer(PointerEvents::Fill)),
+        (
+            r#""pointer-events":"stroke""#,
+            pointer(PointerEvents::Stroke),
+        ),
+        (r#""pointer-events":"all""#, pointer(PointerEvents::All)),
+        (r#""pointer-events":"bounding-box""#, None),
+        (r#""fill":"red""#, None),
+        (r#""stroke":"red""#, None),
+        (r#""stroke-width":0"#, width(0)),
+        (r#""stroke-width":67108864"#, width(67108864)),
+        (r#""stroke-width":67108865"#, None),
+        (r#""stroke-width":-1"#, None),
+        (r#""fill-rule":"odd""#, None),
+        (r#""stroke-linecap":"round""#, ends(Ends::Round)),
+        (r#""stroke-linecap":"square""#, ends(Ends::Square)),
+        (r#""stroke-linecap":"arrow""#, None),
+        (
+            r#""fill":"paint","stroke":"none","fill-rule":"evenodd""#,
+            Some(other),
+        ),
+        (
+            r#""visibility":"visible","pointer-events":"all","fill":"none","stroke":"paint","stroke-width":4096,"fill-rule":"nonzero","stroke-linecap":"butt""#,
+            Some(all),
+        ),
+    ] {
+        let style = format!(in alloc; "{{{text}}}")?;
+        let set = added(alloc, r#""block""#, &style)?.map(|node| given_by(&node.1));
         assert_eq!(rt; set, expected, "{text}");
     }
     Ok(())

@@ -38,7 +38,7 @@ pub(crate) fn coordinate(found: Option<&Value>) -> Option<i64>
     number_within(found, -LIMIT, LIMIT)
 }
 
-fn side(found: Option<&Value>) -> Option<i64>
+pub(crate) fn side(found: Option<&Value>) -> Option<i64>
     ensures value { result ≡ option_and_then side_in (option_map (λ v. view v.now) found.entry) }
     ensures in_range { IfSome result (IsSide 26) }
 {
