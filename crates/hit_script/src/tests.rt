@@ -15,6 +15,7 @@ use tree_edits::Engine;
 
 mod maps;
 mod painting;
+mod values;
 
 /// A piece as large as any.
 const EVER: usize = 65536;
@@ -411,7 +412,6 @@ fn scripts_are_answered(rt: HostRuntime) -> Result<(), Fail> {
     assert_replies(&rt, rt.alloc(), TOPS, TOPS_REPLIES)?;
     assert_replies(&rt, rt.alloc(), PLACES, PLACES_REPLIES)?;
     for (script, replies) in [
-        (painting::LEVELS, painting::LEVELS_REPLIES),
         (painting::AUTO_LEVEL, painting::AUTO_LEVEL_REPLIES),
         (painting::LINES, painting::LINES_REPLIES),
         (painting::IMAGE, painting::IMAGE_REPLIES),
@@ -421,6 +421,8 @@ fn scripts_are_answered(rt: HostRuntime) -> Result<(), Fail> {
         (maps::FIXED, maps::FIXED_REPLIES),
         (maps::DEEP_SCALES, maps::DEEP_SCALES_REPLIES),
         (maps::AT_THE_BOUND, maps::AT_THE_BOUND_REPLIES),
+        (values::HIDDEN, values::HIDDEN_REPLIES),
+        (values::NO_TARGETS, values::NO_TARGETS_REPLIES),
     ] {
         assert_replies(&rt, rt.alloc(), script, replies)?;
     }

@@ -1,21 +1,5 @@
 // Pages whose order of painting was worked out by hand: scripts and their replies.
 
-/// Members of a negative level, a float, blocks, a text, and members of the levels 0 and 1.
-pub const LEVELS: &[u8] =
-    br#"{"op":"add","parent":0,"at":0,"kind":"block","boxes":[[0,0,0,100,100]],"style":{}}
-{"op":"add","parent":1,"at":0,"kind":"block","boxes":[[0,0,0,100,100]],"style":{"position":"relative","z":1}}
-{"op":"add","parent":1,"at":1,"kind":"block","boxes":[[0,0,0,100,100]],"style":{"position":"relative"}}
-{"op":"add","parent":1,"at":2,"kind":"block","boxes":[[0,0,0,100,100]],"style":{}}
-{"op":"add","parent":4,"at":0,"kind":"text","boxes":[[0,0,0,100,100]],"style":{}}
-{"op":"add","parent":1,"at":3,"kind":"block","boxes":[[0,0,0,100,100]],"style":{"float":"left"}}
-{"op":"add","parent":1,"at":4,"kind":"block","boxes":[[0,0,0,100,100]],"style":{}}
-{"op":"add","parent":1,"at":5,"kind":"block","boxes":[[0,0,0,100,100]],"style":{"position":"relative","z":-1}}
-{"op":"hit","x":50,"y":50}
-"#;
-
-pub const LEVELS_REPLIES: &[u8] =
-    b"node 1\nnode 2\nnode 3\nnode 4\nnode 5\nnode 6\nnode 7\nnode 8\nhit 2 3 4 6 7 8 1\n";
-
 /// A positioned block without a level leaves its members to the root, until it has a level.
 pub const AUTO_LEVEL: &[u8] =
     br#"{"op":"add","parent":0,"at":0,"kind":"block","boxes":[[0,0,0,100,100]],"style":{}}
