@@ -1,9 +1,8 @@
 -- Replies and pages over lines that go on.
 use Rattle.std.proofs.Common.{◌≡◌, ◌<◌, ℕ, suc, eqb, true, false, List, [], ◌∷◌, ◌++◌, length, refl, ap, sym, ◌∙◌, append_assoc, arith}
 use Rattle.std.proofs.lemmas.Bool.{both_ways, eqb-true}
-use Rattle.box_tree.specs.Contents.{Contents}
 use Rattle.hit_script.specs.Lines.{lines, whole_lines, unfinished}
-use Rattle.hit_script.specs.Script.{answer_to, replies_from, page_behind}
+use Rattle.hit_script.specs.Script.{Scene, answer_to, replies_from, scene_behind}
 use Rattle.hit_script.proofs.LineLaws.{whole_and_unfinished, whole_lines_more, lines_behind_whole, no_lines}
 
 nat_apart : {n : ℕ} → suc n ≡ 0 → ⊥
@@ -13,13 +12,13 @@ pub some_length : (line : List ℕ) → eqb (length line) 0 ≡ false → 0 < le
 some_length [] some = absurd (both_ways true some refl)
 some_length (b ∷ bs) some = omega arith
 
-pub replies_from-append : (page : Contents) (xs ys : List (List ℕ)) → replies_from page (xs ++ ys) ≡ replies_from page xs ++ replies_from (page_behind page xs) ys
-replies_from-append page [] ys = refl
-replies_from-append page (x ∷ xs) ys = rw (replies_from-append (answer_to page x).page xs ys) (sym (append_assoc (answer_to page x).reply _ _))
+pub replies_from-append : (scene : Scene) (xs ys : List (List ℕ)) → replies_from scene (xs ++ ys) ≡ replies_from scene xs ++ replies_from (scene_behind scene xs) ys
+replies_from-append scene [] ys = refl
+replies_from-append scene (x ∷ xs) ys = rw (replies_from-append (answer_to scene x).scene xs ys) (sym (append_assoc (answer_to scene x).reply _ _))
 
-pub page_behind-append : (page : Contents) (xs ys : List (List ℕ)) → page_behind page (xs ++ ys) ≡ page_behind (page_behind page xs) ys
-page_behind-append page [] ys = refl
-page_behind-append page (x ∷ xs) ys = page_behind-append (answer_to page x).page xs ys
+pub scene_behind-append : (scene : Scene) (xs ys : List (List ℕ)) → scene_behind scene (xs ++ ys) ≡ scene_behind (scene_behind scene xs) ys
+scene_behind-append scene [] ys = refl
+scene_behind-append scene (x ∷ xs) ys = scene_behind-append (answer_to scene x).scene xs ys
 
 -- the whole lines of a text that goes on
 pub lines_more : (bytes more : List ℕ) → lines (whole_lines (bytes ++ more)) ≡ lines (whole_lines bytes) ++ lines (whole_lines (unfinished bytes ++ more))

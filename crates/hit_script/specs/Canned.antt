@@ -1,7 +1,7 @@
 -- What a canned desk tells.
-use Rattle.std.specs.Prelude.{ℕ, ◌+◌, max, List, [], ◌∷◌, Option, Some, None, Ok, map, take, nat_le, nat_lt, slice_set, if◌then◌else◌}
+use Rattle.std.specs.Prelude.{ℕ, ◌+◌, max, List, [], ◌∷◌, Option, Some, None, Ok, true, map, take, nat_le, nat_lt, slice_set, if◌then◌else◌}
 use Rattle.box_tree.specs.declared.edit.Done.TheVariants.{Done}
-use Rattle.hit_script.specs.Log.{Entry, EditEntry, HitEntry, TopEntry}
+use Rattle.hit_script.specs.Log.{Entry, EditEntry, HitEntry, TopEntry, ChainEntry, HasEntry}
 use Rattle.hit_script.specs.declared.canned.Asked.{Asked}
 use Rattle.hit_script.specs.declared.canned.Asked.TheVariants as asked
 use Rattle.hit_script.specs.declared.canned.Canned.{Canned}
@@ -11,6 +11,8 @@ abbrev pub canned_entry : ℕ → Asked → Entry
 canned_entry member asked.Edit = EditEntry (Ok Done)
 canned_entry member (asked.Hit x y) = HitEntry x y (member ∷ [])
 canned_entry member (asked.Top x y) = TopEntry x y (Some member)
+canned_entry member (asked.Chain id) = ChainEntry id (id ∷ [])
+canned_entry member (asked.Has id) = HasEntry id true
 
 -- its log, which is told where there were at most 64 calls
 abbrev pub canned_log : Canned → Option (List Entry)

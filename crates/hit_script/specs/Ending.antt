@@ -4,7 +4,7 @@ use Rattle.box_tree.specs.Contents.{Contents}
 use Rattle.hit_script.specs.Ends.{Rose, TakesAll, TakesFront}
 use Rattle.hit_script.specs.Lines.{lines, whole_lines}
 use Rattle.hit_script.specs.Log.{Entry, Grows, scripted_replies}
-use Rattle.hit_script.specs.Script.{replies_from, page_behind}
+use Rattle.hit_script.specs.Script.{opening, replies_from, scene_behind}
 use Rattle.hit_script.specs.declared.outcome.Status.{Status}
 use Rattle.hit_script.specs.declared.outcome.Status.TheVariants as status
 
@@ -20,12 +20,12 @@ pub record Moment : Type 0 where
 -- A run ended so, by what was told at its start and at its finish.
 pub record Ends (how : Status) (start finish : Moment) : Type 0 where
   pub usage : how ≢ status.Usage
-  pub replied : how ≡ status.Done → (script : List ℕ) (first : Contents) → start.left ≡ Some script → start.page ≡ Some first → TakesAll start.taken finish.taken (replies_from first (lines script))
+  pub replied : how ≡ status.Done → (script : List ℕ) (first : Contents) → start.left ≡ Some script → start.page ≡ Some first → TakesAll start.taken finish.taken (replies_from (opening first) (lines script))
   pub to_the_end : how ≡ status.Done → (script : List ℕ) → start.left ≡ Some script → finish.left ≡ Some []
-  pub page_at_end : how ≡ status.Done → (script : List ℕ) (first : Contents) → start.left ≡ Some script → start.page ≡ Some first → finish.page ≡ Some (page_behind first (lines script))
-  pub front : (script : List ℕ) (first : Contents) → start.left ≡ Some script → start.page ≡ Some first → TakesFront start.taken finish.taken (replies_from first (lines script))
-  pub whole : how ≡ status.ReadFault → (read rest : List ℕ) (first : Contents) → start.left ≡ Some (read ++ rest) → finish.left ≡ Some rest → start.page ≡ Some first → TakesAll start.taken finish.taken (replies_from first (lines (whole_lines read)))
-  pub page_at_fault : how ≡ status.ReadFault → (read rest : List ℕ) (first : Contents) → start.left ≡ Some (read ++ rest) → finish.left ≡ Some rest → start.page ≡ Some first → finish.page ≡ Some (page_behind first (lines (whole_lines read)))
+  pub page_at_end : how ≡ status.Done → (script : List ℕ) (first : Contents) → start.left ≡ Some script → start.page ≡ Some first → finish.page ≡ Some (scene_behind (opening first) (lines script)).page
+  pub front : (script : List ℕ) (first : Contents) → start.left ≡ Some script → start.page ≡ Some first → TakesFront start.taken finish.taken (replies_from (opening first) (lines script))
+  pub whole : how ≡ status.ReadFault → (read rest : List ℕ) (first : Contents) → start.left ≡ Some (read ++ rest) → finish.left ≡ Some rest → start.page ≡ Some first → TakesAll start.taken finish.taken (replies_from (opening first) (lines (whole_lines read)))
+  pub page_at_fault : how ≡ status.ReadFault → (read rest : List ℕ) (first : Contents) → start.left ≡ Some (read ++ rest) → finish.left ≡ Some rest → start.page ≡ Some first → finish.page ≡ Some (scene_behind (opening first) (lines (whole_lines read))).page
   pub log_grows : Grows start.log finish.log
   pub scripted : how ≡ status.Done → (script : List ℕ) (before entries : List Entry) → start.left ≡ Some script → start.log ≡ Some before → finish.log ≡ Some (before ++ entries) → IsSomeAnd (scripted_replies script entries) (TakesAll start.taken finish.taken)
   pub read_fault : how ≡ status.ReadFault → Rose start.read_faults finish.read_faults

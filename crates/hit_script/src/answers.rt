@@ -2,19 +2,22 @@
 ghost use Rattle.std.specs.Prelude.{◌≡◌, ◌≢◌, ℕ, List, ◌++◌, ◌&&◌, ◌∷◌, [], not, Ok, Err, IfOk, OnOk};
 ghost use Rattle.box_tree.specs.Contents.{IsWithin};
 ghost use Rattle.box_tree.specs.Edited.{IsInRange};
+ghost use Rattle.mouse_events.specs.State.{State};
 ghost use Rattle.script_lines.specs.Blank.{is_blank as blank};
 ghost use Rattle.script_lines.specs.Command.{is_long, IsAskable};
 ghost use Rattle.script_lines.specs.declared.command.Command.TheVariants.{Edit as edit_command, Hit as hit_command, Top as top_command};
 ghost use Rattle.script_lines.specs.Reply.{line_fault_line};
-ghost use Rattle.hit_script.specs.Answered.{Answers, Appends, Replies};
+ghost use Rattle.hit_script.specs.Answered.{Answers, Appends, IsSpotted, Replies, RepliesBeside, known};
 ghost use Rattle.hit_script.specs.Cutting.{counted, cut_by_newline};
 ghost use Rattle.hit_script.specs.Log.{Grows};
 
 use crate::cutter::{Cut, LineCutter};
 use crate::desks::Desk;
 use crate::memory::OutOfMemory;
+use crate::pointing::{answer_point, answer_refresh};
 use box_tree::{Done, Edit, EditFault};
 use fractions::{Ledger, Steps};
+use mouse_events::Pointer;
 use script_lines::{Command, LONGEST_LINE, LineFault, Reply, command_of, is_blank, print};
 use std::alloc::Global;
 
@@ -26,7 +29,7 @@ fn answer_edit<D: Desk, L: Ledger>(
 ) -> Result<(), OutOfMemory>
     requires { IsInRange edit.now }
     ensures log { Grows (D.log desk.old) (D.log desk.new) }
-    ensures reply { OnOk result (Appends (Replies (Ok (edit_command edit.now)) (D.page desk.old) (D.page desk.new) (D.log desk.old) (D.log desk.new)) out.old.items out.new.items) }
+    ensures reply { (pointer : State) → OnOk result (Appends (RepliesBeside (Ok (edit_command edit.now)) pointer (D.page desk.old) (D.page desk.new) (D.log desk.old) (D.log desk.new)) out.old.items out.new.items) }
 {
     match desk.edit(edit, steps) {
         Ok(Done::Node { id }) => print(&Reply::Node(id), out)?,
@@ -48,7 +51,7 @@ fn answer_hit<D: Desk, L: Ledger>(
     requires x { IsWithin 26 x }
     requires y { IsWithin 26 y }
     ensures log { Grows (D.log desk.old) (D.log desk.new) }
-    ensures reply { OnOk result (Appends (Replies (Ok (hit_command x y)) (D.page desk.old) (D.page desk.new) (D.log desk.old) (D.log desk.new)) out.old.items out.new.items) }
+    ensures reply { (pointer : State) → OnOk result (Appends (RepliesBeside (Ok (hit_command x y)) pointer (D.page desk.old) (D.page desk.new) (D.log desk.old) (D.log desk.new)) out.old.items out.new.items) }
 {
     let ids = desk.hit(alloc, x, y, steps)?;
     Ok(print(&Reply::Hit(&ids), out)?)
@@ -65,7 +68,7 @@ fn answer_top<D: Desk, L: Ledger>(
     requires x { IsWithin 26 x }
     requires y { IsWithin 26 y }
     ensures log { Grows (D.log desk.old) (D.log desk.new) }
-    ensures reply { OnOk result (Appends (Replies (Ok (top_command x y)) (D.page desk.old) (D.page desk.new) (D.log desk.old) (D.log desk.new)) out.old.items out.new.items) }
+    ensures reply { (pointer : State) → OnOk result (Appends (RepliesBeside (Ok (top_command x y)) pointer (D.page desk.old) (D.page desk.new) (D.log desk.old) (D.log desk.new)) out.old.items out.new.items) }
 {
     let id = desk.top(alloc, x, y, steps)?;
     Ok(print(&Reply::Top(id), out)?)
@@ -82,22 +85,28 @@ fn answer_fault(why: LineFault, out: &mut Vec<u8>) -> Result<(), OutOfMemory>
     }
 }
 
+#[tactic(auto, using(crate::proofs::TurnLaws::replied_beside, crate::proofs::TurnLaws::replied_fault))]
 fn answer_command<D: Desk, L: Ledger>(
     alloc: Global,
     asked: Result<Command, LineFault>,
     desk: &mut D,
+    pointer: &mut Pointer,
     steps: &mut Steps<L>,
     out: &mut Vec<u8>,
 ) -> Result<(), OutOfMemory>
-    requires { IfOk asked IsAskable }
+    requires askable { IfOk asked IsAskable }
+    requires spot { IsSpotted pointer.old }
     ensures memory { OnOk result (asked ≢ Err LineFault.OutOfMemory) }
+    ensures spot { IsSpotted pointer.new }
     ensures log { Grows (D.log desk.old) (D.log desk.new) }
-    ensures reply { OnOk result (Appends (Replies asked (D.page desk.old) (D.page desk.new) (D.log desk.old) (D.log desk.new)) out.old.items out.new.items) }
+    ensures reply { OnOk result (Appends (Replies asked (known (D.page desk.old) (D.log desk.old) pointer.old) (known (D.page desk.new) (D.log desk.new) pointer.new)) out.old.items out.new.items) }
 {
     match asked {
         Ok(Command::Edit(edit)) => answer_edit(&edit, desk, steps, out),
         Ok(Command::Hit { x, y }) => answer_hit(alloc, x, y, desk, steps, out),
         Ok(Command::Top { x, y }) => answer_top(alloc, x, y, desk, steps, out),
+        Ok(Command::Point { x, y }) => answer_point(alloc, x, y, desk, pointer, steps, out),
+        Ok(Command::Refresh) => answer_refresh(alloc, desk, pointer, steps, out),
         Err(why) => answer_fault(why, out),
     }
 }
@@ -114,16 +123,19 @@ fn answer<D: Desk, L: Ledger>(
     alloc: Global,
     line: &[u8],
     desk: &mut D,
+    pointer: &mut Pointer,
     steps: &mut Steps<L>,
     out: &mut Vec<u8>,
 ) -> Result<(), OutOfMemory>
+    requires { IsSpotted pointer.old }
+    ensures spot { IsSpotted pointer.new }
     ensures log { Grows (D.log desk.old) (D.log desk.new) }
-    ensures reply { OnOk result (Appends (Answers (line.now ∷ []) (D.page desk.old) (D.page desk.new) (D.log desk.old) (D.log desk.new)) out.old.items out.new.items) }
+    ensures reply { OnOk result (Appends (Answers (line.now ∷ []) (known (D.page desk.old) (D.log desk.old) pointer.old) (known (D.page desk.new) (D.log desk.new) pointer.new)) out.old.items out.new.items) }
 {
     if is_passed_over(line) {
         return Ok(());
     }
-    answer_command(alloc, command_of(alloc, line), desk, steps, out)
+    answer_command(alloc, command_of(alloc, line), desk, pointer, steps, out)
 }
 
 /// Answers the line that a newline or the end of the script has cut: its reply is put behind what `out` has. Of a line
@@ -133,16 +145,19 @@ pub fn answer_cut<D: Desk, L: Ledger>(
     cut: Cut,
     cutter: &LineCutter,
     desk: &mut D,
+    pointer: &mut Pointer,
     steps: &mut Steps<L>,
     out: &mut Vec<u8>,
 ) -> Result<(), OutOfMemory>
-    requires { cut ≡ cut_by_newline cutter.now }
+    requires cut { cut ≡ cut_by_newline cutter.now }
+    requires spot { IsSpotted pointer.old }
+    ensures spot { IsSpotted pointer.new }
     ensures log { Grows (D.log desk.old) (D.log desk.new) }
     ensures reply { OnOk result ((line : List ℕ) → cutter.now ≡ counted line
-        → Appends (Answers (line ∷ []) (D.page desk.old) (D.page desk.new) (D.log desk.old) (D.log desk.new)) out.old.items out.new.items) }
+        → Appends (Answers (line ∷ []) (known (D.page desk.old) (D.log desk.old) pointer.old) (known (D.page desk.new) (D.log desk.new) pointer.new)) out.old.items out.new.items) }
 {
     match cut {
-        Cut::Long => answer_command(alloc, Err(LineFault::Long), desk, steps, out),
-        _ => answer(alloc, cutter.line(), desk, steps, out),
+        Cut::Long => answer_command(alloc, Err(LineFault::Long), desk, pointer, steps, out),
+        _ => answer(alloc, cutter.line(), desk, pointer, steps, out),
     }
 }

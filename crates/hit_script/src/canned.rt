@@ -1,6 +1,6 @@
 // A desk with the same answers to all, for tests of what stands above a desk.
-ghost use Rattle.std.specs.Prelude.{◌≡◌, ◌∷◌, [], Some, None, Ok, IfOk, OnOk, OnErr};
-ghost use Rattle.hit_script.specs.Log.{EditEntry, HitEntry, TopEntry, Logs};
+ghost use Rattle.std.specs.Prelude.{◌≡◌, ◌∷◌, [], true, Some, None, Ok, IfOk, OnOk, OnErr};
+ghost use Rattle.hit_script.specs.Log.{EditEntry, HitEntry, TopEntry, ChainEntry, HasEntry, Logs};
 ghost use Rattle.hit_script.specs.Canned.{canned_entry, canned_log, asked_once_more};
 
 use crate::desks::Desk;
@@ -21,9 +21,14 @@ pub enum Asked {
     Hit { x: i64, y: i64 },
     /// For the topmost element under a point, in units of 1/64 px.
     Top { x: i64, y: i64 },
+    /// For the chain of an element.
+    Chain { id: u32 },
+    /// Whether an element is in the page.
+    Has { id: u32 },
 }
 
-/// A desk without a page. It accepts every edit, and finds one member under every point.
+/// A desk without a page. It accepts every edit, finds one member under every point, and has every element, each of which
+/// has no ancestor.
 ///
 /// It keeps what it was asked in its first 64 calls, and tells its log as long as there were no more.
 #[derive(Debug, Drop)]
@@ -98,5 +103,31 @@ impl Desk for Canned {
     {
         self.keep(Asked::Top { x, y });
         Ok(Some(self.member))
+    }
+
+    fn chain<L: Ledger>(
+        &mut self,
+        alloc: Global,
+        id: u32,
+        _steps: &mut Steps<L>,
+    ) -> Result<Vec<u32>, OutOfMemory>
+        ensures alone { IfOk result (λ ids. ids.items ≡ id ∷ []) }
+        ensures kept { OnOk result (self.new ≡ asked_once_more self.old (Asked.Chain id)) }
+        ensures unchanged { OnErr result (self.new ≡ self.old) }
+        ensures logged { IfOk result (λ ids. Logs (canned_log self.old) (canned_log self.new) (ChainEntry id ids.items)) }
+        ensures no_step { _steps.new ≡ _steps.old }
+    {
+        let ids = Vec::from_slice(alloc, &[id])?;
+        self.keep(Asked::Chain { id });
+        Ok(ids)
+    }
+
+    fn has(&mut self, id: u32) -> bool
+        ensures has { result ≡ true }
+        ensures kept { self.new ≡ asked_once_more self.old (Asked.Has id) }
+        ensures logged { Logs (canned_log self.old) (canned_log self.new) (HasEntry id result) }
+    {
+        self.keep(Asked::Has { id });
+        true
     }
 }

@@ -1,9 +1,10 @@
-ghost use Rattle.std.specs.Prelude.{◌≡◌, ◌≢◌, List, Option, Some, None, option_map, IfOk, IfErr, IfSome, OnOk, OnErr};
-ghost use Rattle.box_tree.specs.Contents.{Contents, IsWithin};
+ghost use Rattle.std.specs.Prelude.{◌≡◌, ◌≢◌, ◌≤◌, length, List, Option, Some, None, option_map, IfOk, IfErr, IfSome, OnOk, OnErr};
+ghost use Rattle.box_tree.specs.Contents.{Contents, IsWithin, has_id};
 ghost use Rattle.box_tree.specs.Edited.{IsInRange, edited, answer_of};
+ghost use Rattle.point_query.specs.Chain.{chain_of};
 ghost use Rattle.point_query.specs.Elements.{elements_from_point, element_from_point};
 ghost use Rattle.tree_edits.specs.Edits.{first_fault};
-ghost use Rattle.hit_script.specs.Log.{Entry, EditEntry, HitEntry, TopEntry, Logs};
+ghost use Rattle.hit_script.specs.Log.{Entry, EditEntry, HitEntry, TopEntry, ChainEntry, HasEntry, Logs};
 
 use crate::memory::OutOfMemory;
 use box_tree::{Done, Edit, EditFault};
@@ -62,6 +63,25 @@ pub trait Desk {
         ensures same { page self.new ≡ page self.old }
         ensures logged { IfOk result (λ id. Logs (log self.old) (log self.new) (TopEntry x y id)) }
         ensures not_logged { OnErr result (log self.new ≡ log self.old) };
+
+    /// The ancestors of an element and the element itself, root first: at most 256, and none of an id that isn't in the page.
+    fn chain<L: Ledger>(
+        &mut self,
+        alloc: Global,
+        id: u32,
+        steps: &mut Steps<L>,
+    ) -> Result<Vec<u32>, OutOfMemory>
+        ensures chain { IfOk result (λ ids. IfSome (page self.old) (λ was. ids.items ≡ chain_of was id)) }
+        ensures short { IfOk result (λ ids. length ids.items ≤ 256) }
+        ensures same { page self.new ≡ page self.old }
+        ensures logged { IfOk result (λ ids. Logs (log self.old) (log self.new) (ChainEntry id ids.items)) }
+        ensures not_logged { OnErr result (log self.new ≡ log self.old) };
+
+    /// Whether the id is in the page.
+    fn has(&mut self, id: u32) -> bool
+        ensures is { IfSome (page self.old) (λ was. result ≡ has_id was id) }
+        ensures same { page self.new ≡ page self.old }
+        ensures logged { Logs (log self.old) (log self.new) (HasEntry id result) };
 }
 
 /// The engine, which tells its page and no log.
@@ -92,5 +112,21 @@ impl Desk for Engine {
         steps: &mut Steps<L>,
     ) -> Result<Option<u32>, OutOfMemory> {
         Ok(point_query::top(alloc, self, x, y, steps)?)
+    }
+
+    fn chain<L: Ledger>(
+        &mut self,
+        alloc: Global,
+        id: u32,
+        steps: &mut Steps<L>,
+    ) -> Result<Vec<u32>, OutOfMemory> {
+        if !self.page().has(id) {
+            return Ok(Vec::new(alloc));
+        }
+        Ok(point_query::chain(alloc, self, id, steps)?)
+    }
+
+    fn has(&mut self, id: u32) -> bool {
+        self.page().has(id)
     }
 }

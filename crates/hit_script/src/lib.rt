@@ -4,7 +4,8 @@
 // any source, any sink and any desk that keep their traits; that each answer is the one that the desk gave to that line, by
 // `specs/Log.antt`; that however a run ends the sink has taken a front of these replies; and that each status comes from
 // its cause alone. It stands on `script_lines` for lines and replies, on `box_tree` for edits and their faults, on
-// `tree_edits` and `point_query` for the engine that is the usual desk, and on `fractions` for the counter of steps.
+// `tree_edits` and `point_query` for the engine that is the usual desk, on `mouse_events` for the pointer, and on
+// `fractions` for the counter of steps.
 #![tactic(auto)]
 
 mod answers;
@@ -13,6 +14,7 @@ mod cutter;
 mod desks;
 mod memory;
 mod outcome;
+mod pointing;
 mod script;
 mod sinks;
 mod sources;

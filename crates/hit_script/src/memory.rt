@@ -12,6 +12,12 @@ impl From<AllocError> for OutOfMemory {
     }
 }
 
+impl From<mouse_events::OutOfMemory> for OutOfMemory {
+    fn from(_error: mouse_events::OutOfMemory) -> OutOfMemory {
+        OutOfMemory
+    }
+}
+
 impl From<point_query::OutOfMemory> for OutOfMemory {
     fn from(_error: point_query::OutOfMemory) -> OutOfMemory {
         OutOfMemory

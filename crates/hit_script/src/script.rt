@@ -15,6 +15,7 @@ use crate::sources::Source;
 use crate::transfer::read_piece;
 use crate::turns::{reply_to, reply_to_last};
 use fractions::{Ledger, Steps};
+use mouse_events::Pointer;
 use std::alloc::Global;
 
 /// The most bytes that one read asks for.
@@ -62,6 +63,9 @@ fn play<S: Source, K: Sink, D: Desk, L: Ledger>(
     let Ok(mut cutter) = LineCutter::new(alloc) else {
         return Status::Memory;
     };
+    let Ok(mut pointer) = Pointer::new(alloc) else {
+        return Status::Memory;
+    };
     let mut read = 0;
     'pieces: loop {
         let Ok(count) = read_piece(source, &mut piece, room_after(read)) else {
@@ -74,11 +78,20 @@ fn play<S: Source, K: Sink, D: Desk, L: Ledger>(
         if read == MOST {
             return Status::TooMuch;
         }
-        if let Err(fault) = reply_to(alloc, &piece[..count], sink, desk, steps, &mut cutter) {
+        let replied = reply_to(
+            alloc,
+            &piece[..count],
+            sink,
+            desk,
+            &mut pointer,
+            steps,
+            &mut cutter,
+        );
+        if let Err(fault) = replied {
             return status_of(fault);
         }
     }
-    match reply_to_last(alloc, &mut cutter, sink, desk, steps) {
+    match reply_to_last(alloc, &mut cutter, sink, desk, &mut pointer, steps) {
         Ok(()) => Status::Done,
         Err(fault) => status_of(fault),
     }

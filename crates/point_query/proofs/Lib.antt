@@ -1,3 +1,4 @@
+pub mod ChainLemmas
 pub mod RootLemmas
 pub mod OnceLemmas
 pub mod AdmissionLemmas

@@ -18,7 +18,7 @@ use Rattle.box_tree.specs.Contents.{IsWithin}
 use Rattle.script_lines.specs.Numbers.{◌>>=◌, number_within, coordinate, side, number_to, is_array_of, is_object_of}
 use Rattle.script_lines.specs.Style.{style_of}
 use Rattle.script_lines.specs.declared.command.Command.{Command}
-use Rattle.script_lines.specs.declared.command.Command.TheVariants.{Edit, Hit, Top}
+use Rattle.script_lines.specs.declared.command.Command.TheVariants.{Edit, Hit, Top, Point, Refresh}
 use Rattle.script_lines.specs.declared.command.LineFault.{LineFault}
 use Rattle.script_lines.specs.declared.command.LineFault.TheVariants as fault
 
@@ -190,6 +190,13 @@ hit_of d = option_map (λ point. Hit point.0 point.1) (point_of d)
 abbrev pub top_of : Data → Option Command
 top_of d = option_map (λ point. Top point.0 point.1) (point_of d)
 
+abbrev pub pointer_of : Data → Option Command
+pointer_of d = option_map (λ point. Point point.0 point.1) (point_of d)
+
+-- the row of `refresh`, which has no other key
+abbrev pub refresh_of : Data → Option Command
+refresh_of d = if is_object_of 1 d then Some Refresh else None
+
 -- the command by the row of an op
 abbrev pub row_named : List ℕ → Data → Option Command
 row_named op d =
@@ -201,6 +208,8 @@ row_named op d =
     else if bytes_eq op (codes "resize") then resize_of d
     else if bytes_eq op (codes "hit") then hit_of d
     else if bytes_eq op (codes "top") then top_of d
+    else if bytes_eq op (codes "point") then pointer_of d
+    else if bytes_eq op (codes "refresh") then refresh_of d
     else None
 
 -- the command that an object spells, by its key `op`
@@ -231,3 +240,5 @@ abbrev pub IsAskable : Command → Type 0
 IsAskable (Edit edit) = IsInRange edit
 IsAskable (Hit x y) = IsWithin 26 x × IsWithin 26 y
 IsAskable (Top x y) = IsWithin 26 x × IsWithin 26 y
+IsAskable (Point x y) = IsWithin 26 x × IsWithin 26 y
+IsAskable Refresh = Unit {0}

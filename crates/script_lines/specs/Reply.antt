@@ -4,10 +4,13 @@ use Rattle.std.specs.List.{flat_map}
 use Rattle.box_tree.specs.declared.edit.EditFault.{EditFault}
 use Rattle.box_tree.specs.declared.edit.EditFault.TheVariants as edit_fault
 use Rattle.box_tree.specs.Edited.{fault_number, fault_name}
+use Rattle.mouse_events.specs.declared.event.Event.{Event}
+use Rattle.mouse_events.specs.declared.event.EventKind.{EventKind}
+use Rattle.mouse_events.specs.declared.event.EventKind.TheVariants as event_kind
 use Rattle.script_lines.specs.declared.command.LineFault.{LineFault}
 use Rattle.script_lines.specs.declared.command.LineFault.TheVariants as line_fault
 use Rattle.script_lines.specs.declared.reply.Reply.{Reply}
-use Rattle.script_lines.specs.declared.reply.Reply.TheVariants.{Node, Done, Hit, Top, Line, Edit}
+use Rattle.script_lines.specs.declared.reply.Reply.TheVariants.{Node, Done, Hit, Top, Events, Line, Edit}
 
 -- a text and its newline
 abbrev pub line_of : List ℕ → List ℕ
@@ -45,6 +48,31 @@ abbrev pub top_line : Option ℕ → List ℕ
 top_line (Some id) = line_of (codes "top " ++ decimal id)
 top_line None = line_of (codes "top null")
 
+-- the name of what an event tells: that of UI Events without `mouse`
+abbrev pub event_name : EventKind → List ℕ
+event_name event_kind.Out = codes "out"
+event_name event_kind.Leave = codes "leave"
+event_name event_kind.Over = codes "over"
+event_name event_kind.Enter = codes "enter"
+event_name event_kind.Move = codes "move"
+
+-- the id of a related element, and a dash for none
+abbrev pub related_name : Option ℕ → List ℕ
+related_name None = codes "-"
+related_name (Some id) = decimal id
+
+-- a space, what an event tells, and an equals sign
+abbrev pub listed_kind : EventKind → List ℕ
+listed_kind kind = codes " " ++ (event_name kind ++ codes "=")
+
+-- a space and an event: what it tells, its target and the related element
+abbrev pub listed_event : Event → List ℕ
+listed_event event = listed_kind event.kind ++ (decimal event.target ++ (codes ":" ++ related_name event.related))
+
+-- the line of some events
+abbrev pub events_line : List Event → List ℕ
+events_line events = line_of (codes "events" ++ flat_map listed_event events)
+
 -- the line of an accepted add, by the id of the new node
 abbrev pub node_line : ℕ → List ℕ
 node_line id = line_of (codes "node " ++ decimal id)
@@ -65,6 +93,7 @@ reply_line (Node id) = node_line id
 reply_line Done = done_line
 reply_line (Hit ids) = hit_line ids.now
 reply_line (Top id) = top_line id
+reply_line (Events events) = events_line events.now
 reply_line (Line why) = line_fault_line why
 reply_line (Edit why) = edit_fault_line why
 

@@ -18,6 +18,10 @@ pub enum Command {
     Hit { x: i64, y: i64 },
     /// Which element is topmost under a point, in the same units.
     Top { x: i64, y: i64 },
+    /// The pointer goes to a point, in the same units.
+    Point { x: i64, y: i64 },
+    /// The pointer stays where it is, over what is there now.
+    Refresh,
 }
 
 /// Why a line is no command, in the order of the tests.

@@ -1,10 +1,11 @@
 ghost use Rattle.std.specs.Prelude.{◌≡◌, ◌++◌, ◌∷◌, [], OnOk, OnErr, decimal};
 ghost use Rattle.std.specs.List.{flat_map};
-ghost use Rattle.script_lines.specs.Reply.{line_of, line_fault_number, line_fault_name, fault_line, listed, hit_line, top_line, reply_line, HasLine, Keeps};
+ghost use Rattle.script_lines.specs.Reply.{line_of, line_fault_number, line_fault_name, fault_line, listed, hit_line, top_line, event_name, related_name, listed_kind, listed_event, events_line, reply_line, HasLine, Keeps};
 
 use crate::command::LineFault;
 use box_tree::EditFault;
 use itoa::Buffer;
+use mouse_events::{Event, EventKind};
 use std::alloc::{AllocError, AllocFailed};
 use thiserror::Error;
 
@@ -19,6 +20,8 @@ pub enum Reply<'a> {
     Hit(&'a [u32]),
     /// The topmost element under a point, or none.
     Top(Option<u32>),
+    /// The events of a turn of the pointer, in their order.
+    Events(&'a [Event]),
     Line(LineFault),
     Edit(EditFault),
 }
@@ -93,6 +96,7 @@ fn append(reply: &Reply<'_>, out: &mut Vec<u8>) -> Result<(), AllocError>
         Reply::Done => out.extend_from_slice(b"ok\n"),
         Reply::Hit(ids) => append_hit(ids, out),
         Reply::Top(id) => append_top(*id, out),
+        Reply::Events(events) => append_events(events, out),
         Reply::Line(why) => append_fault(why.number(), why.name(), out),
         Reply::Edit(why) => append_fault(why.number(), why.name(), out),
     }
@@ -135,6 +139,59 @@ fn append_top(id: Option<u32>, out: &mut Vec<u8>) -> Result<(), AllocError>
     out.extend_from_slice(b"top ")?;
     append_number(id, out)?;
     out.extend_from_slice(b"\n")
+}
+
+fn append_events(events: &[Event], out: &mut Vec<u8>) -> Result<(), AllocError>
+    ensures ok { OnOk result (out.new.items ≡ out.old.items ++ events_line events.now) }
+    ensures kept { Keeps out.old.items out.new.items }
+{
+    out.extend_from_slice(b"events")?;
+    for event in events {
+        append_event(*event, out)?;
+    }
+    out.extend_from_slice(b"\n")
+}
+
+fn append_event(event: Event, out: &mut Vec<u8>) -> Result<(), AllocError>
+    ensures ok { OnOk result (out.new.items ≡ out.old.items ++ listed_event event) }
+    ensures kept { Keeps out.old.items out.new.items }
+{
+    append_kind(event.kind, out)?;
+    append_number(event.target, out)?;
+    out.extend_from_slice(b":")?;
+    append_related(event.related, out)
+}
+
+fn append_kind(kind: EventKind, out: &mut Vec<u8>) -> Result<(), AllocError>
+    ensures ok { OnOk result (out.new.items ≡ out.old.items ++ listed_kind kind) }
+    ensures kept { Keeps out.old.items out.new.items }
+{
+    out.extend_from_slice(b" ")?;
+    out.extend_from_slice(event_name(kind).as_bytes())?;
+    out.extend_from_slice(b"=")
+}
+
+fn append_related(related: Option<u32>, out: &mut Vec<u8>) -> Result<(), AllocError>
+    ensures ok { OnOk result (out.new.items ≡ out.old.items ++ related_name related) }
+    ensures kept { Keeps out.old.items out.new.items }
+{
+    match related {
+        Some(id) => append_number(id, out),
+        None => out.extend_from_slice(b"-"),
+    }
+}
+
+// What a kind of event is called in replies.
+fn event_name(kind: EventKind) -> &'static str
+    ensures { result.now ≡ event_name kind }
+{
+    match kind {
+        EventKind::Out => "out",
+        EventKind::Leave => "leave",
+        EventKind::Over => "over",
+        EventKind::Enter => "enter",
+        EventKind::Move => "move",
+    }
 }
 
 fn append_fault(number: Option<u8>, name: &str, out: &mut Vec<u8>) -> Result<(), AllocError>

@@ -4,7 +4,7 @@ ghost use Rattle.serde_json.specs.View.{view};
 ghost use Rattle.computed_style.specs.Ranges.{IsStyleInRange};
 ghost use Rattle.box_tree.specs.Contents.{IsSpotInRange, IsMaxInRange, IsWithin};
 ghost use Rattle.box_tree.specs.Edited.{IsId};
-ghost use Rattle.script_lines.specs.Command.{new_place, new_node, add_of, remove_of, move_of, layout, place_of, restyle_of, resize_of, point_of, hit_of, top_of, command_reading, IsAskable};
+ghost use Rattle.script_lines.specs.Command.{new_place, new_node, add_of, remove_of, move_of, layout, place_of, restyle_of, resize_of, point_of, hit_of, top_of, pointer_of, refresh_of, command_reading, IsAskable};
 
 use crate::command::Command;
 use crate::style::style_from;
@@ -190,6 +190,25 @@ fn top_from(value: &Value) -> Option<Command>
     Some(Command::Top { x, y })
 }
 
+fn pointer_from(value: &Value) -> Option<Command>
+    ensures value { result ≡ pointer_of (view value.now) }
+    ensures in_range { IfSome result IsAskable }
+{
+    let (x, y) = point_from(value)?;
+    Some(Command::Point { x, y })
+}
+
+fn refresh_from(value: &Value) -> Option<Command>
+    ensures value { result ≡ refresh_of (view value.now) }
+    ensures in_range { IfSome result IsAskable }
+{
+    if is_object_of(value, 1) {
+        Some(Command::Refresh)
+    } else {
+        None
+    }
+}
+
 /// The command that a JSON value spells.
 #[tactic(auto, unfolding(crate::specs::Command::command_reading))]
 pub fn command_from(alloc: Global, value: &Value) -> Result<Option<Command>, AllocError>
@@ -205,6 +224,8 @@ pub fn command_from(alloc: Global, value: &Value) -> Result<Option<Command>, All
         Some("resize") => Ok(resize_from(value)),
         Some("hit") => Ok(hit_from(value)),
         Some("top") => Ok(top_from(value)),
+        Some("point") => Ok(pointer_from(value)),
+        Some("refresh") => Ok(refresh_from(value)),
         _ => Ok(None),
     }
 }

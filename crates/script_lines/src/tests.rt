@@ -3,6 +3,7 @@
 use crate::{Command, LineFault, Reply, command_of, is_blank, print};
 use box_tree::{Edit, EditFault, Kind};
 use computed_style::{Ends, Function, PointerEvents, Position, Rule, Style};
+use mouse_events::{Event, EventKind};
 use std::alloc::Global;
 use std::process::Abort;
 use std::test::Fail;
@@ -29,6 +30,19 @@ fn assert_top(rt: &impl Abort, alloc: Global, line: &[u8], point: (i64, i64)) ->
     Ok(())
 }
 
+fn assert_point(
+    rt: &impl Abort,
+    alloc: Global,
+    line: &[u8],
+    point: (i64, i64),
+) -> Result<(), Fail> {
+    let Command::Point { x, y } = command_of(alloc, line)? else {
+        return Ok(assert!(rt; false));
+    };
+    assert_eq!(rt; (x, y), point);
+    Ok(())
+}
+
 fn assert_fault(rt: &impl Abort, alloc: Global, line: &[u8], fault: LineFault) {
     assert!(rt; matches!(command_of(alloc, line), Err(why) if why == fault));
 }
@@ -42,25 +56,46 @@ fn lines_ask_for_queries(rt: HostRuntime) -> Result<(), Fail> {
         br#"{"op":"top","y":67108864,"x":-67108864}"#,
         (-67108864, 67108864),
     )?;
-    assert_fault(
-        &rt,
-        rt.alloc(),
-        br#"{"op":"top","x":67108865,"y":0}"#,
-        LineFault::Command,
-    );
-    assert_fault(
-        &rt,
-        rt.alloc(),
-        br#"{"op":"top","x":0}"#,
-        LineFault::Command,
-    );
-    assert_fault(
-        &rt,
-        rt.alloc(),
-        br#"{"op":"top","x":0,"y":0"#,
-        LineFault::Syntax,
-    );
+    assert_point(&rt, rt.alloc(), br#"{"op":"point","x":-1,"y":2}"#, (-1, 2))?;
+    let refresh = command_of(rt.alloc(), br#"{"op":"refresh"}"#);
+    assert!(rt; matches!(refresh, Ok(Command::Refresh)));
+    for (line, fault) in [
+        (
+            br#"{"op":"top","x":67108865,"y":0}"#.as_slice(),
+            LineFault::Command,
+        ),
+        (br#"{"op":"top","x":0}"#.as_slice(), LineFault::Command),
+        (br#"{"op":"top","x":0,"y":0"#.as_slice(), LineFault::Syntax),
+        (
+            br#"{"op":"point","x":0,"y":-67108865}"#.as_slice(),
+            LineFault::Command,
+        ),
+        (br#"{"op":"point"}"#.as_slice(), LineFault::Command),
+        (
+            br#"{"op":"refresh","x":0,"y":0}"#.as_slice(),
+            LineFault::Command,
+        ),
+    ] {
+        assert_fault(&rt, rt.alloc(), line, fault);
+    }
     Ok(())
+}
+
+/// An event of each kind.
+const EVENTS: [Event; 5] = [
+    event(EventKind::Out, 10, Some(9)),
+    event(EventKind::Leave, 10, Some(9)),
+    event(EventKind::Over, 9, Some(10)),
+    event(EventKind::Enter, 9, None),
+    event(EventKind::Move, 9, None),
+];
+
+const fn event(kind: EventKind, target: u32, related: Option<u32>) -> Event {
+    Event {
+        kind,
+        target,
+        related,
+    }
 }
 
 #[test]
@@ -72,11 +107,13 @@ fn replies_are_printed(rt: HostRuntime) -> Result<(), Fail> {
     print(&Reply::Hit(&[]), &mut out)?;
     print(&Reply::Top(Some(7)), &mut out)?;
     print(&Reply::Top(None), &mut out)?;
+    print(&Reply::Events(&[]), &mut out)?;
+    print(&Reply::Events(&EVENTS), &mut out)?;
     print(&Reply::Line(LineFault::Long), &mut out)?;
     print(&Reply::Edit(EditFault::Full), &mut out)?;
     assert_eq!(rt;
         out.as_slice(),
-        b"node 4294967295\nok\nhit 10 9\nhit\ntop 7\ntop null\nerr 1 long\nerr 10 full\n".as_slice()
+        b"node 4294967295\nok\nhit 10 9\nhit\ntop 7\ntop null\nevents\nevents out=10:9 leave=10:9 over=9:10 enter=9:- move=9:-\nerr 1 long\nerr 10 full\n".as_slice()
     );
     Ok(())
 }

@@ -353,3 +353,33 @@ fn hidden_boxes_and_those_without_pointer_events_are_passed_over(
         Blank::new(1),
     )
 }
+
+// Compares the chains of the nodes of a page of three nested blocks and one beside them.
+fn compare_chains<L: Ledger>(rt: &impl Abort, alloc: Global, blank: Blank) -> Result<(), Fail>
+    requires name { blank.name ≡ L.name }
+    requires parts { blank.parts ≡ L.parts }
+    requires some_parts { 0 < blank.parts }
+{
+    let mut steps = Steps::<L>::new(blank);
+    let mut engine = Engine::new(alloc, 81_920, 46_080)?;
+    for (parent, at) in [(0, 0), (1, 0), (2, 0), (1, 1)] {
+        let edit = block(alloc, parent, at, &[(0, 0, 100, 100)])?;
+        assert!(rt; edit.in_range());
+        assert!(rt; engine.edit(&edit, &mut steps).is_ok());
+    }
+    for (id, wanted) in [
+        (1, [1].as_slice()),
+        (3, [1, 2, 3].as_slice()),
+        (4, [1, 4].as_slice()),
+    ] {
+        assert!(rt; engine.page().has(id));
+        let ids = crate::chain(alloc, &engine, id, &mut steps)?;
+        assert_eq!(rt; ids.as_slice(), wanted, "{id}");
+    }
+    Ok(())
+}
+
+#[test]
+fn a_chain_leads_from_the_root_to_its_element(rt: HostRuntime) -> Result<(), Fail> {
+    compare_chains::<Brand>(&rt, rt.alloc(), Blank::new(1))
+}

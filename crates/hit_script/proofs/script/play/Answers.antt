@@ -17,7 +17,8 @@ returns-in_default g c =
 pub pieces-init : goal.pieces-init
 pieces-init g c =
     record {
-      reads = rw c.in-Ok-new.ensures (reads_first _);
+      reads = rw (c.in-Ok-new.ensures, c.in-Ok-new-pointer.ensures) (reads_first _);
+      spot = rw c.in-Ok-new-pointer.ensures tt;
       below = omega arith;
       room = c.in-Ok.ensures.len;
     }
@@ -56,8 +57,11 @@ pub slice_bounds-reply_to-end : goal.slice_bounds-reply_to-end
 slice_bounds-reply_to-end g c =
     sym (front_length c.deref.result.now c.in-Ok-read_piece.count c.room_after.result _ c.in-Ok-read_piece.ensures.within c.room_after.ensures.piece (c.deref.ensures.len ∙ c.pieces.invariant.room))
 
-pub reply_to-requires : goal.reply_to-requires
-reply_to-requires g c =
+pub reply_to-requires-clause-spot : goal.reply_to-requires-clause-spot
+reply_to-requires-clause-spot g c = c.pieces.invariant.spot
+
+pub reply_to-requires-clause-fits : goal.reply_to-requires-clause-fits
+reply_to-requires-clause-fits g c =
     let kept = c.pieces.invariant in
     let long = front_length c.deref.result.now c.in-Ok-read_piece.count c.room_after.result _ c.in-Ok-read_piece.ensures.within c.room_after.ensures.piece (c.deref.ensures.len ∙ kept.room) in
     omega (arith, long, count_within kept.reads, c.in-Ok-read_piece.ensures.within, c.room_after.ensures.most)
@@ -97,13 +101,17 @@ pieces-preserved g c =
     let replied = rw same at c.in_default-reply_to.ensures.replied in
     let line = kept.reads.begun in
     record {
-      reads = rw long at (reads_more _ bytes _ kept.reads reads.read (begun line kept.reads.has_begun) (replied line kept.reads.has_begun) c.reply_to.ensures.log c.read_piece.ensures.never_falls c.reply_to.ensures.never_falls);
+      reads = rw long at (reads_more _ _ bytes _ kept.reads reads.read (begun line kept.reads.has_begun) (replied line kept.reads.has_begun) c.reply_to.ensures.log c.read_piece.ensures.never_falls c.reply_to.ensures.never_falls);
+      spot = c.reply_to.ensures.spot;
       below = omega (arith, reads.within, c.room_after.ensures.most, c.if-read-eq-MOST.false);
       room = kept.room;
     }
 
-pub reply_to_last-requires : goal.reply_to_last-requires
-reply_to_last-requires g c = omega (arith, count_within c.pieces.invariant.reads, c.pieces.invariant.below)
+pub reply_to_last-requires-clause-spot : goal.reply_to_last-requires-clause-spot
+reply_to_last-requires-clause-spot g c = c.pieces.invariant.spot
+
+pub reply_to_last-requires-clause-fits : goal.reply_to_last-requires-clause-fits
+reply_to_last-requires-clause-fits g c = omega (arith, count_within c.pieces.invariant.reads, c.pieces.invariant.below)
 
 pub returns-in-Ok-reply_to_last : goal.returns-in-Ok-reply_to_last
 returns-in-Ok-reply_to_last g c =
@@ -111,7 +119,7 @@ returns-in-Ok-reply_to_last g c =
     let none = c.if-count-eq0.true in
     let reads = rw none at c.in-Ok-read_piece.ensures.read in
     let ended = c.in-Ok-read_piece.ensures.end (ap Ok none) in
-    ends_done kept.reads.stands kept.below _ reads ended (c.in-Ok-reply_to_last.ensures.replied kept.reads.begun kept.reads.has_begun) c.reply_to_last.ensures.log
+    ends_done kept.reads.stands kept.below _ _ reads ended (c.in-Ok-reply_to_last.ensures.replied kept.reads.begun kept.reads.has_begun) c.reply_to_last.ensures.log
 
 pub returns : goal.returns
 returns g c =

@@ -1,4 +1,5 @@
 use Rattle.std.proofs.Common.{◌≡◌, ◌<◌, ◌-◌, ◌^◌, vec_len}
+use Rattle.hit_script.specs.Answered.{IsSpotted}
 use Rattle.hit_script.specs.Ending.{Moment}
 use Rattle.hit_script.proofs.Progress.{Reads}
 use Rattle.hit_script.proofs.script.play.Given as goal
@@ -9,7 +10,8 @@ invariant-pieces g l =
     let start : Moment = record { left = g.S.Source.left l.fn.source; taken = g.K.Sink.taken l.fn.sink; page = g.D.Desk.page l.fn.desk; log = g.D.Desk.log l.fn.desk; read_faults = g.S.Source.faults l.fn.source; write_faults = g.K.Sink.faults l.fn.sink } in
     let now : Moment = record { left = g.S.Source.left l.source; taken = g.K.Sink.taken l.sink; page = g.D.Desk.page l.desk; log = g.D.Desk.log l.desk; read_faults = g.S.Source.faults l.source; write_faults = g.K.Sink.faults l.sink } in
     record {
-      reads : Reads start now l.read l.cutter;
+      reads : Reads start now l.read l.cutter l.pointer;
+      spot : IsSpotted l.pointer;
       below : l.read < 2 ^ 32;
       room : vec_len l.piece ≡ 2 ^ 16;
     }

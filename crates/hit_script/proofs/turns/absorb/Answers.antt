@@ -12,10 +12,11 @@ use Rattle.hit_script.proofs.turns.absorb.Goals as goal
 pub loop-at-init : goal.loop-at-init
 loop-at-init g c = record {
   within = omega arith;
-  fits = omega (arith, c.requires);
+  fits = omega (arith, c.requires.fits);
+  spot = c.requires.spot;
   begun = λ begun has. rw (append-nil begun, unfinished_none begun has.open_line) has.counts;
   log = grows_same _;
-  answered = λ begun has. rw (append-nil begun, whole_lines_none begun has.open_line, no_lines) (appends_nothing _ _ c.args.out.now.items);
+  answered = λ begun has. rw (append-nil begun, whole_lines_none begun has.open_line, no_lines) (appends_nothing _ c.args.out.now.items);
 }
 
 pub loop-at-preserved : goal.loop-at-preserved
@@ -33,6 +34,7 @@ loop-at-preserved g c =
           let so_far = begun ++ take at piece in
           let next : HasBegun c.loop-at.cutter (unfinished so_far) = record { counts = kept.begun begun has; open_line = newline_not_unfinished so_far } in
           taken.begun (unfinished so_far) next ∙ ap counted (sym (unfinished_more so_far part) ∙ ap unfinished (sym (next_part begun piece at n)));
+      spot = c.take_part.ensures.spot;
       log = grows_both kept.log c.take_part.ensures.log;
       answered = λ begun has.
           let so_far = begun ++ take at piece in

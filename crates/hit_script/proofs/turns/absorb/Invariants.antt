@@ -1,5 +1,5 @@
 use Rattle.std.proofs.Common.{◌≡◌, ◌≤◌, ◌+◌, ◌-◌, ◌^◌, ◌++◌, ℕ, List, length, take}
-use Rattle.hit_script.specs.Answered.{Answers, Appends}
+use Rattle.hit_script.specs.Answered.{Answers, Appends, IsSpotted, known}
 use Rattle.hit_script.specs.Cutting.{counted}
 use Rattle.hit_script.specs.Lines.{HasBegun, lines, whole_lines, unfinished}
 use Rattle.hit_script.specs.Log.{Grows}
@@ -11,8 +11,9 @@ invariant-loop-at g l = record {
   within : l.at ≤ length l.piece;
   fits : l.cutter.count + (length l.piece - l.at) ≤ 2 ^ 32;
   begun : (begun : List ℕ) → HasBegun l.fn.cutter begun → l.cutter ≡ counted (unfinished (begun ++ take l.at l.piece));
+  spot : IsSpotted l.pointer;
   log : Grows (g.D.Desk.log l.fn.desk) (g.D.Desk.log l.desk);
-  answered : (begun : List ℕ) → HasBegun l.fn.cutter begun → Appends (Answers (lines (whole_lines (begun ++ take l.at l.piece))) (g.D.Desk.page l.fn.desk) (g.D.Desk.page l.desk) (g.D.Desk.log l.fn.desk) (g.D.Desk.log l.desk)) l.fn.out.items l.out.items;
+  answered : (begun : List ℕ) → HasBegun l.fn.cutter begun → Appends (Answers (lines (whole_lines (begun ++ take l.at l.piece))) (known (g.D.Desk.page l.fn.desk) (g.D.Desk.log l.fn.desk) l.fn.pointer) (known (g.D.Desk.page l.desk) (g.D.Desk.log l.desk) l.pointer)) l.fn.out.items l.out.items;
 }
 
 abbrev pub decreases-loop-at : goal.decreases-loop-at

@@ -1,4 +1,5 @@
 use Rattle.std.proofs.Common.{◌++◌}
+use Rattle.hit_script.specs.Answered.{known}
 use Rattle.hit_script.specs.Lines.{lines, whole_lines}
 use Rattle.hit_script.proofs.Outcomes.{on_ok}
 use Rattle.hit_script.proofs.Endings.{handed_all, handed_front}
@@ -9,10 +10,10 @@ returns-clause-begun g c = on_ok c.write_all.result _ c.in_ok-absorb.ensures.beg
 
 pub returns-clause-replied : goal.returns-clause-replied
 returns-clause-replied g c =
-    handed_all c.write_all.result c.args.cutter.now (λ begun. lines (whole_lines (begun ++ c.args.piece.now))) _ _ _ _ _ _ c.deref.result.now c.write_all.ensures.ok
+    handed_all c.write_all.result c.args.cutter.now (λ begun. lines (whole_lines (begun ++ c.args.piece.now))) _ _ _ _ c.deref.result.now c.write_all.ensures.ok
     (λ begun has. rw (c.deref.ensures.value) (rw c.new-replies.ensures.items at (c.in_ok-absorb.ensures.replies begun has)))
 
 pub returns-clause-part : goal.returns-clause-part
 returns-clause-part g c =
-    handed_front c.write_all.result c.args.cutter.now (λ begun. lines (whole_lines (begun ++ c.args.piece.now))) _ (g.D.Desk.page c.absorb.new.desk) (g.D.Desk.log c.args.desk.now) (g.D.Desk.log c.absorb.new.desk) _ _ c.deref.result.now c.write_all.ensures.part
+    handed_front c.write_all.result c.args.cutter.now (λ begun. lines (whole_lines (begun ++ c.args.piece.now))) _ (known (g.D.Desk.page c.absorb.new.desk) (g.D.Desk.log c.absorb.new.desk) c.absorb.new.pointer) _ _ c.deref.result.now c.write_all.ensures.part
     (λ begun has. rw (c.deref.ensures.value) (rw c.new-replies.ensures.items at (c.in_ok-absorb.ensures.replies begun has)))

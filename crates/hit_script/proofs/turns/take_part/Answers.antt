@@ -27,12 +27,12 @@ pub returns-in-More-clause-replies : goal.returns-in-More-clause-replies
 returns-in-More-clause-replies g c = λ begun has.
     let took = c.take_piece-count.ensures in
     let on = goes_on_by c.args.cutter.now begun c.args.piece.now c.take_piece-count.result.0 c.take_piece-count.new.self has took.taken took.counted (sym took.cut ∙ c.in-More.is) in
-    rw on.none_whole (appends_nothing _ _ c.args.out.now.items)
+    rw on.none_whole (appends_nothing _ c.args.out.now.items)
 
 -- The line ends.
 
-pub answer_cut-requires : goal.answer_cut-requires
-answer_cut-requires g c =
+pub answer_cut-requires-clause-cut : goal.answer_cut-requires-clause-cut
+answer_cut-requires-clause-cut g c =
     let took = c.take_piece-count.ensures in
     took.cut ∙ cutting-over c.args.piece.now c.args.cutter.now (λ more. c.in_default.not-More (took.cut ∙ more)) ∙ ap cut_by_newline (sym took.counted)
 

@@ -1,0 +1,24 @@
+use Rattle.std.proofs.Common.{◌≡◌, ◌<◌, ◌++◌, ◌∷◌, [], ℕ, Bool, List, length, length-append, take, get_or, map, sym, ap, ◌∙◌, arith}
+use Rattle.std.specs.Prelude.{IfSome}
+use Rattle.std.proofs.lemmas.List.{take_all, take_more}
+use Rattle.box_tree.specs.Contents.{has_id}
+use Rattle.hit_script.specs.Log.{LogsAll, has_entries}
+use Rattle.hit_script.proofs.Logs.{grows_same, grows_both, grows_by, logs_both, logs_none}
+use Rattle.hit_script.proofs.TurnLaws.{has_entries-more, alive_more}
+use Rattle.hit_script.proofs.pointing.living.Goals as goal
+
+pub loop-id-preserved : goal.loop-id-preserved
+loop-id-preserved g c =
+    let chain = c.args.chain.now in
+    let k = c.loop-id.id-index in
+    let id = get_or chain k 0 in
+    let kept = c.loop-id.invariant in
+    let within : k < length chain = omega arith in
+    let more = take_more chain k 0 within in
+    rw (c.in_ok-push.ensures.items, more) record {
+      count = omega (arith, kept.count, length-append c.loop-id.alive.items (c.has-is_there.result ∷ []), length-append (take k chain) (id ∷ []));
+      alive = alive_more (g.D.Desk.page c.args.desk.now) (take k chain) c.loop-id.alive.items id c.has-is_there.result kept.alive (rw kept.same at c.has-is_there.ensures.is);
+      same = c.has-is_there.ensures.same ∙ kept.same;
+      grows = grows_both kept.grows (grows_by c.has-is_there.ensures.logged);
+      logged = rw (has_entries-more (take k chain) c.loop-id.alive.items id c.has-is_there.result kept.count) (logs_both kept.logged c.has-is_there.ensures.logged);
+    }
