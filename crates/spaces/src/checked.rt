@@ -9,9 +9,7 @@ ghost use Rattle.spaces.specs.Spaces.{padding_corner, transform_around, doubled_
 ghost use Rattle.spaces.specs.Checked.{then_product, checked_products, checked_space, own_factors_of};
 ghost use Rattle.spaces.specs.Sizes.{HasNumbersInRange, IsOriginInRange};
 
-use crate::factors::{
-    doubled_origin, from_origin, moving_by, padding_corner, scrolled, to_origin,
-};
+use crate::factors::{doubled_origin, from_origin, moving_by, padding_corner, scrolled, to_origin};
 use affine::{Map, compose, identity, matrix};
 use box_tree::{Holder, Node, Page, is_transformed};
 use computed_style::{Function, Functions};

@@ -137,7 +137,13 @@ fn turned(rt: &impl Abort, alloc: Global) -> Result<Page, Fail> {
         (0, Block, [].as_slice(), None, Some([0, 0, 100, 100])),
         (1, Block, [by_5].as_slice(), None, Some([-10, -10, 20, 20])),
         (1, Block, [twice].as_slice(), None, Some([0, 0, 3, 5])),
-        (1, Block, [moved, turn].as_slice(), Some((1, 2)), Some([10, 20, 3, 5])),
+        (
+            1,
+            Block,
+            [moved, turn].as_slice(),
+            Some((1, 2)),
+            Some([10, 20, 3, 5]),
+        ),
         (1, Inline, [twice].as_slice(), None, Some([1, 2, 3, 5])),
         (1, Block, [flat].as_slice(), Some((7, 0)), None),
     ] {

@@ -24,9 +24,9 @@ returns c =
     let some : boxes ≢ [] = some-from boxes (ap (λ (bs : List Piece). length bs == 0) (sym c.as_slice.ensures) ∙ sym c.is_empty.ensures ∙ c.if-is_empty.false) in
     let x_is : to_z w64 (of_z w64 c.past_border-x.result) ≡ (first_box boxes).l +ℤ left_border n =
     sum-fits c.past_border-x.result c.first_box-piece.result.l (first_box boxes).l c.left_border.result (left_border n) c.past_border-x.ensures.value
-        (ap (λ (b : Piece). b.l) c.first_box-piece.ensures.first) c.left_border.ensures c.first_box-piece.ensures.range.across.start (side-at c.args.node.now.style.border 3 c.requires.border) in
+    (ap (λ (b : Piece). b.l) c.first_box-piece.ensures.first) c.left_border.ensures c.first_box-piece.ensures.range.across.start (side-at c.args.node.now.style.border 3 c.requires.border) in
     let y_is : to_z w64 (of_z w64 c.past_border-y.result) ≡ (first_box boxes).t +ℤ top_border n =
     sum-fits c.past_border-y.result c.first_box-piece.result.t (first_box boxes).t c.top_border.result (top_border n) c.past_border-y.ensures.value
-        (ap (λ (b : Piece). b.t) c.first_box-piece.ensures.first) c.top_border.ensures c.first_box-piece.ensures.range.down.start (side-at c.args.node.now.style.border 0 c.requires.border) in
+    (ap (λ (b : Piece). b.t) c.first_box-piece.ensures.first) c.top_border.ensures c.first_box-piece.ensures.range.down.start (side-at c.args.node.now.style.border 0 c.requires.border) in
     ap (λ (m : Parts). m ∷ []) (c.translate.ensures ∙ ap (λ (x : ℤ). translation x (to_z w64 (of_z w64 c.past_border-y.result)) (pos 1)) x_is ∙ ap (λ (y : ℤ). translation ((first_box boxes).l +ℤ left_border n) y (pos 1)) y_is)
     ∙ sym (corner_of-some n boxes some)
