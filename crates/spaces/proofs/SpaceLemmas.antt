@@ -1,6 +1,6 @@
 -- The space of a node where no product on the way there passes the bound, from that of its containing block or from the
 -- viewport.
-use Rattle.std.proofs.Common.{◌≡◌, ◌≢◌, ℕ, ◌+◌, ◌<◌, ◌≤◌, List, [], ◌∷◌, ◌++◌, length, Option, Some, None, is_some, true, false, IsTrue, refl, sym, ap, ◌∙◌, arith}
+use Rattle.std.proofs.Common.{◌≡◌, ◌≢◌, ℕ, ◌+◌, ◌<◌, ◌≤◌, List, [], ◌∷◌, ◌++◌, length, Option, Some, None, inl, is_some, true, false, IsTrue, refl, sym, ap, ◌∙◌, arith}
 use Rattle.std.proofs.lemmas.Bool.{false≢true}
 use Rattle.std.specs.Option.{option_map, option_map_or, option_and_then}
 use Rattle.affine.specs.declared.map.Parts.{Parts}
@@ -12,6 +12,8 @@ use Rattle.box_tree.specs.Contents.{Contents, node_at, node_of, placed_of, has_i
 use Rattle.box_tree.specs.Used.{used_position}
 use Rattle.box_tree.specs.Containing.{Standing, parent_of, outermost, containing_block, containing_block_chain}
 use Rattle.box_tree.specs.Kept.{label_of}
+use Rattle.box_tree.proofs.ForestLemmas.{placed_in-absent}
+use Rattle.box_tree.proofs.PutLemmas.{given-absent}
 use Rattle.box_tree.proofs.MoveLemmas.{each-placed}
 use Rattle.box_tree.proofs.PlacedLemmas.{seen_at}
 use Rattle.box_tree.proofs.ContainingLemmas.{standing, label-seen, parent-seen, IsHeldBy, held_by, unheld}
@@ -31,6 +33,10 @@ is_there page id there = by_place (placed_of page id) refl there
     by_place : (o : Option Placed) → placed_of page id ≡ o → is_some o ≡ true → IsThere page id
     by_place None found there' = absurd (false≢true there')
     by_place (Some p) found there' = record { node = node_at p; seen = ap (option_map node_at) found }
+
+-- no node has the id 0, and so none has a space
+pub spaceless : (page : Contents) → IsValid page → None ≡ checked_space page 0
+spaceless page valid = sym (ap (option_and_then (λ p. checked_at page.viewport (standing_at p))) (placed_in-absent page.tree [] 0 (given-absent page.tree [] page.next 0 valid.given (inl refl))))
 
 pub unseen : (page : Contents) (id : ℕ) → has_id page id ≡ false → node_of page id ≡ None
 unseen page id absent = by_place (placed_of page id) absent

@@ -1,9 +1,10 @@
 ghost use Rattle.std.specs.Prelude.{◌≡◌, ◌<◌, [], IsTrue};
 ghost use Rattle.box_tree.specs.Contents.{has_id, IsValid};
 ghost use Rattle.spaces.specs.Bound.{is_bounded};
-ghost use Rattle.spaces.specs.Checked.{are_checked, is_checked_from};
+ghost use Rattle.spaces.specs.Checked.{checked_space, are_checked, is_checked_from};
 
 use crate::checked::checked_space;
+use affine::Map;
 use box_tree::Page;
 use fractions::{Blank, Brand, Ledger, Steps};
 
@@ -25,23 +26,32 @@ fn within_with<L: Ledger>(page: &Page, blank: Blank) -> bool
     ensures { result ≡ are_checked page.now.contents.viewport [] page.now.contents.tree }
 {
     match page.root() {
-        Some(root) => is_checked_from(page, root, &mut Steps::<L>::new(blank)),
+        Some(root) => is_checked_from(page, root, 0, None, &mut Steps::<L>::new(blank)),
         None => true,
     }
 }
 
-// Whether no product on the way to a node, or to one below it, passes the bound.
-fn is_checked_from<L: Ledger>(page: &Page, id: u32, steps: &mut Steps<L>) -> bool
+// Whether no product on the way to a node, or to one below it, passes the bound. The space of its parent is known, which
+// is 0 for the root.
+fn is_checked_from<L: Ledger>(
+    page: &Page,
+    id: u32,
+    parent: u32,
+    outer: Option<Map>,
+    steps: &mut Steps<L>,
+) -> bool
     requires valid { IsValid page.now.contents }
     requires there { IsTrue (has_id page.now.contents id) }
+    requires outer { outer ≡ checked_space page.now.contents parent }
     ensures { result ≡ is_checked_from page.now.contents id }
 {
-    if checked_space(page, id, steps).is_none() {
+    let space = checked_space(page, id, parent, outer, steps);
+    if space.is_none() {
         return false;
     }
     let node = page.node(id, steps);
     for child in node.children.as_slice() {
-        if !is_checked_from(page, *child, steps) {
+        if !is_checked_from(page, *child, id, space, steps) {
             return false;
         }
     }

@@ -16,15 +16,25 @@ use computed_style::{Function, Functions};
 use fractions::{Ledger, Spot, Steps};
 
 // The space of a node, where no product on the way there passes the bound: along its containing blocks (CSS 2.2, 10.1),
-// at most 256 of them.
-pub(crate) fn checked_space<L: Ledger>(page: &Page, id: u32, steps: &mut Steps<L>) -> Option<Map>
+// at most 256 of them, as far as one whose space is known; id 0 stands for none.
+pub(crate) fn checked_space<L: Ledger>(
+    page: &Page,
+    id: u32,
+    known_id: u32,
+    known: Option<Map>,
+    steps: &mut Steps<L>,
+) -> Option<Map>
     requires valid { IsValid page.now.contents }
     requires there { IsTrue (has_id page.now.contents id) }
+    requires known { known ≡ checked_space page.now.contents known_id }
     ensures { result ≡ checked_space page.now.contents id }
 {
+    if id == known_id {
+        return known;
+    }
     match page.containing_block(id) {
         Holder::Node { id: holder } => {
-            let outer = checked_space(page, holder, steps);
+            let outer = checked_space(page, holder, known_id, known, steps);
             let around = inside(outer, page.node(holder, steps));
             own_space(page, id, around, steps)
         }

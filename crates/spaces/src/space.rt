@@ -24,7 +24,7 @@ pub fn plain_space<L: Ledger>(page: &Page, id: u32, steps: &mut Steps<L>) -> Opt
     ensures { result ≡ space page.now.contents id }
 {
     page.validity();
-    checked_space(page, id, steps)
+    checked_space(page, id, 0, None, steps)
 }
 
 /// A point of the viewport, in units within 2^20, in the space of a node, in fine units: 64 times its exact preimage,

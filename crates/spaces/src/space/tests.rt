@@ -20,12 +20,12 @@ struct Added {
     kind: Kind,
     style: Style,
     // the corner and the sides of its box
-    sides: Option<[i64; 4]>,
+    sides: Option<(i64, i64, i64, i64)>,
 }
 
-fn box_at(alloc: Global, sides: Option<[i64; 4]>) -> Result<PieceList, Fail> {
+fn box_at(alloc: Global, sides: Option<(i64, i64, i64, i64)>) -> Result<PieceList, Fail> {
     let mut pieces = Vec::new(alloc);
-    if let Some([l, t, w, h]) = sides {
+    if let Some((l, t, w, h)) = sides {
         pieces.push(Piece {
             line: 0,
             l,
@@ -109,7 +109,7 @@ fn bordered(rt: &impl Abort, alloc: Global) -> Result<Page, Fail> {
             parent,
             kind,
             style: placed(alloc, position, border),
-            sides: corner.map(|(l, t)| [l, t, 50, 50]),
+            sides: corner.map(|(l, t)| (l, t, 50, 50)),
         };
         add(rt, alloc, &mut page, node)?;
     }
@@ -134,17 +134,17 @@ fn turned(rt: &impl Abort, alloc: Global) -> Result<Page, Fail> {
     let turn = Quarter { turns: 1 };
     let mut page = Page::new(alloc, 81_920, 46_080);
     for (parent, kind, functions, origin, sides) in [
-        (0, Block, [].as_slice(), None, Some([0, 0, 100, 100])),
-        (1, Block, [by_5].as_slice(), None, Some([-10, -10, 20, 20])),
-        (1, Block, [twice].as_slice(), None, Some([0, 0, 3, 5])),
+        (0, Block, [].as_slice(), None, Some((0, 0, 100, 100))),
+        (1, Block, [by_5].as_slice(), None, Some((-10, -10, 20, 20))),
+        (1, Block, [twice].as_slice(), None, Some((0, 0, 3, 5))),
         (
             1,
             Block,
             [moved, turn].as_slice(),
             Some((1, 2)),
-            Some([10, 20, 3, 5]),
+            Some((10, 20, 3, 5)),
         ),
-        (1, Inline, [twice].as_slice(), None, Some([1, 2, 3, 5])),
+        (1, Inline, [twice].as_slice(), None, Some((1, 2, 3, 5))),
         (1, Block, [flat].as_slice(), Some((7, 0)), None),
     ] {
         let node = Added {

@@ -14,7 +14,7 @@ is_checked_from-requires g t c κs within =
     let is : get_or c.node-node.result.now.children c.loop-child.child-index 0 ≡ child = ap (λ (ids : List ℕ). get_or ids c.loop-child.child-index 0) (sym c.as_slice-child-items.ensures) in
     let deep = child-deeper page c.requires.valid c.args.id c.node-node.result.now c.node-node.ensures.node c.loop-child.child-index child 0 in_list is in
     let few = not_deepest page c.requires.valid child in
-    (omega (arith, deep, few), (within, (c.requires.valid, child-there page c.requires.valid c.args.id c.node-node.result.now c.node-node.ensures.node c.loop-child.child-index child 0 in_list is)))
+    (omega (arith, deep, few), (within, (c.requires.valid, (child-there page c.requires.valid c.args.id c.node-node.result.now c.node-node.ensures.node c.loop-child.child-index child 0 in_list is, c.checked_space-space.ensures))))
 
 pub returns-then-not-is_checked_from : goal.returns-then-not-is_checked_from
 returns-then-not-is_checked_from g t c =
@@ -42,7 +42,7 @@ returns g t c =
     let page = c.args.page.now.contents in
     let k = c.loop-child.child-index in
     let node = c.node-node.result.now in
-    let some : is_some (checked_space page c.args.id) ≡ true = ap is_some (sym c.checked_space.ensures) ∙ c.is_none.ensures ∙ ap not c.if-is_none.false in
+    let some : is_some (checked_space page c.args.id) ≡ true = ap is_some (sym c.checked_space-space.ensures) ∙ c.is_none.ensures ∙ ap not c.if-is_none.false in
     let all : length node.children ≤ k = subst (λ (ids : List ℕ). length ids ≤ k) c.as_slice-child-items.ensures c.loop-child-test.false in
     let below : is_checked_below page c.args.id 0 ≡ true = sym c.loop-child.invariant ∙ checked_below-end page c.requires.valid c.args.id node c.node-node.ensures.node k all in
     sym (checked_from-own page c.requires.valid c.args.id node c.node-node.ensures.node ∙ ap (λ b. b && is_checked_below page c.args.id 0) some ∙ below)

@@ -1,6 +1,7 @@
 -- All nodes are the root and those below it.
 use Rattle.std.proofs.Common.{◌≡◌, [], ◌∷◌, List, ℕ, Option, sym, ap, ◌∙◌}
 use Rattle.std.specs.Option.{option_to_list}
+use Rattle.spaces.proofs.SpaceLemmas.{spaceless}
 use Rattle.spaces.proofs.WalkLemmas.{root-there, checked_from-root, checked-rootless}
 use Rattle.spaces.proofs.bound.within_with.Goals as goal
 
@@ -12,3 +13,6 @@ returns-in-Some g c = c.is_checked_from.ensures ∙ checked_from-root c.args.pag
 
 pub returns-in-None : goal.returns-in-None
 returns-in-None g c = sym (checked-rootless c.args.page.now.contents (sym c.root.ensures.root ∙ ap option_to_list c.in-None.is))
+
+pub is_checked_from-requires-clause-outer : goal.is_checked_from-requires-clause-outer
+is_checked_from-requires-clause-outer g c = spaceless c.args.page.now.contents c.requires.valid

@@ -14,7 +14,7 @@ checked_space-outer-requires g t c κs within =
     let own = is_there page c.args.id c.requires.there in
     let by = sym c.containing_block.ensures ∙ c.in-Node.is in
     let nearer = holder-nearer page c.requires.valid c.args.id own.node own.seen c.in-Node.holder by in
-    (omega (arith, nearer), (within, (c.requires.valid, holder-there page c.requires.valid c.args.id own.node own.seen c.in-Node.holder by)))
+    (omega (arith, nearer), (within, (c.requires.valid, (holder-there page c.requires.valid c.args.id own.node own.seen c.in-Node.holder by, c.requires.known))))
 
 pub node-requires : goal.node-requires
 node-requires g t c =
