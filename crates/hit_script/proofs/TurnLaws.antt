@@ -1,6 +1,6 @@
 -- What a turn of the pointer is answered with, by the scene and by the log.
 use Rattle.std.proofs.Common.{◌≡◌, ℕ, ℤ, ◌==◌, List, [], ◌∷◌, ◌++◌, length, map, take, suc, Bool, true, false, Option, Some, None, Result, Ok, Err, refl, sym, ap, subst, ◌∙◌, append_assoc, arith}
-use Rattle.std.specs.Prelude.{IfSome, OnOk, option_map, option_and_then, ◌&&◌, if◌then◌else◌}
+use Rattle.std.specs.Prelude.{IfOk, IfSome, OnOk, option_map, option_and_then, ◌&&◌, if◌then◌else◌}
 use Rattle.std.specs.Option.{option_map_or}
 use Rattle.std.specs.Ordering.{int_eq}
 use Rattle.std.proofs.lemmas.Bool.Decides.{Decides-eqb, Decides-int_eq}
@@ -12,6 +12,7 @@ use Rattle.mouse_events.specs.Events.{events_between}
 use Rattle.point_query.specs.Chain.{chain_of}
 use Rattle.point_query.specs.Elements.{element_from_point}
 use Rattle.script_lines.specs.Reply.{events_line, line_fault_line}
+use Rattle.script_lines.specs.Command.{IsAskable}
 use Rattle.script_lines.specs.declared.command.Command.{Command}
 use Rattle.script_lines.specs.declared.command.Command.TheVariants.{Point, Refresh}
 use Rattle.script_lines.specs.declared.command.LineFault.{LineFault}
@@ -221,6 +222,14 @@ replied_beside (Ok ok) asked pointer page0 page log0 log old new stays (text, ap
     by_scene (Some p) by was told =
         let was_is : record { page = p; pointer = pointer } ≡ was = same_Some _ _ told in
         rw (← was_is) (by p refl)
+
+-- a command by another name
+pub asked_as : {T E : Type 0} (r : Result T E) (asked asked' : Result Command LineFault) (before after : Known) (old new : List ℕ) → asked ≡ asked' → OnOk r (Appends (Replies asked' before after) old new) → OnOk r (Appends (Replies asked before after) old new)
+asked_as r asked asked' before after old new is replies = subst (λ (a : Result Command LineFault). OnOk r (Appends (Replies a before after) old new)) (sym is) replies
+
+-- the numbers of a command that may be asked
+pub askable : (asked : Result Command LineFault) (command : Command) → IfOk asked IsAskable → asked ≡ Ok command → IsAskable command
+askable asked command may is = subst (λ (a : Result Command LineFault). IfOk a IsAskable) is may
 
 -- the fault of a line
 pub replied_fault : {T E : Type 0} (r : Result T E) (why : LineFault) (now : Known) (old new : List ℕ) → OnOk r (new ≡ old ++ line_fault_line why) → OnOk r (Appends (Replies (Err why) now now) old new)

@@ -17,8 +17,8 @@ returns-in_default g c =
 pub pieces-init : goal.pieces-init
 pieces-init g c =
     record {
-      reads = rw (c.in-Ok-new.ensures, c.in-Ok-new-pointer.ensures) (reads_first _);
-      spot = rw c.in-Ok-new-pointer.ensures tt;
+      reads = rw (c.in-Ok-new.ensures, c.in-Ok-new-2.ensures) (reads_first _);
+      spot = rw c.in-Ok-new-2.ensures tt;
       below = omega arith;
       room = c.in-Ok.ensures.len;
     }
@@ -57,18 +57,18 @@ pub slice_bounds-reply_to-end : goal.slice_bounds-reply_to-end
 slice_bounds-reply_to-end g c =
     sym (front_length c.deref.result.now c.in-Ok-read_piece.count c.room_after.result _ c.in-Ok-read_piece.ensures.within c.room_after.ensures.piece (c.deref.ensures.len ∙ c.pieces.invariant.room))
 
-pub reply_to-requires-clause-spot : goal.reply_to-requires-clause-spot
-reply_to-requires-clause-spot g c = c.pieces.invariant.spot
+pub reply_to-replied-requires-clause-spot : goal.reply_to-replied-requires-clause-spot
+reply_to-replied-requires-clause-spot g c = c.pieces.invariant.spot
 
-pub reply_to-requires-clause-fits : goal.reply_to-requires-clause-fits
-reply_to-requires-clause-fits g c =
+pub reply_to-replied-requires-clause-fits : goal.reply_to-replied-requires-clause-fits
+reply_to-replied-requires-clause-fits g c =
     let kept = c.pieces.invariant in
     let long = front_length c.deref.result.now c.in-Ok-read_piece.count c.room_after.result _ c.in-Ok-read_piece.ensures.within c.room_after.ensures.piece (c.deref.ensures.len ∙ kept.room) in
     omega (arith, long, count_within kept.reads, c.in-Ok-read_piece.ensures.within, c.room_after.ensures.most)
 
 pub returns-in-Err : goal.returns-in-Err
 returns-in-Err g c =
-    let finish : Moment = record { left = g.S.Source.left c.read_piece.new.source; taken = g.K.Sink.taken c.reply_to.new.sink; page = g.D.Desk.page c.reply_to.new.desk; log = g.D.Desk.log c.reply_to.new.desk; read_faults = g.S.Source.faults c.read_piece.new.source; write_faults = g.K.Sink.faults c.reply_to.new.sink } in
+    let finish : Moment = record { left = g.S.Source.left c.read_piece.new.source; taken = g.K.Sink.taken c.reply_to-replied.new.sink; page = g.D.Desk.page c.reply_to-replied.new.desk; log = g.D.Desk.log c.reply_to-replied.new.desk; read_faults = g.S.Source.faults c.read_piece.new.source; write_faults = g.K.Sink.faults c.reply_to-replied.new.sink } in
     let kept = c.pieces.invariant in
     let reads = c.in-Ok-read_piece.ensures in
     let count = c.in-Ok-read_piece.count in
@@ -76,14 +76,14 @@ returns-in-Err g c =
     let filled = c.read_piece.auto.piece ∙ c.deref_mut.ensures.len in
     let same = whole_buffer c.deref.result.now c.read_piece.new.piece _ _ c.deref.ensures.value filled in
     let long = front_length c.read_piece.new.piece count c.room_after.result _ reads.within c.room_after.ensures.piece (filled ∙ kept.room) in
-    let part = rw (c.in-Err.is, same) at c.reply_to.ensures.part in
+    let part = rw (c.in-Err.is, same) at c.reply_to-replied.ensures.part in
     let line = kept.reads.begun in
     let below : c.pieces.read + length bytes < 2 ^ 32 = omega (arith, long, reads.within, c.room_after.ensures.most, c.if-read-eq-MOST.false) in
     ends_by_sink c.in-Err.fault c.status_of.result _ finish c.status_of.ensures
-    (λ e. rose_since _ _ _ kept.reads.stands.write_faults (c.reply_to.ensures.failed (c.in-Err.is ∙ ap Err e)))
+    (λ e. rose_since _ _ _ kept.reads.stands.write_faults (c.reply_to-replied.ensures.failed (c.in-Err.is ∙ ap Err e)))
     (front_in_piece kept.reads.stands finish bytes reads.read (part line kept.reads.has_begun))
     (short_with_piece kept.reads.stands finish bytes reads.read below)
-    (grows_both kept.reads.stands.log_grows c.reply_to.ensures.log)
+    (grows_both kept.reads.stands.log_grows c.reply_to-replied.ensures.log)
 
 pub pieces-smaller : goal.pieces-smaller
 pieces-smaller g c = omega (arith, c.in-Ok-read_piece.ensures.within, c.room_after.ensures.most, c.if-count-eq0.false, c.if-read-eq-MOST.false)
@@ -97,12 +97,12 @@ pieces-preserved g c =
     let filled = c.read_piece.auto.piece ∙ c.deref_mut.ensures.len in
     let same = whole_buffer c.deref.result.now c.read_piece.new.piece _ _ c.deref.ensures.value filled in
     let long = front_length c.read_piece.new.piece count c.room_after.result _ reads.within c.room_after.ensures.piece (filled ∙ kept.room) in
-    let begun = rw same at c.in_default-reply_to.ensures.begun in
-    let replied = rw same at c.in_default-reply_to.ensures.replied in
+    let begun = rw same at c.in_default-replied.ensures.begun in
+    let replied = rw same at c.in_default-replied.ensures.replied in
     let line = kept.reads.begun in
     record {
-      reads = rw long at (reads_more _ _ bytes _ kept.reads reads.read (begun line kept.reads.has_begun) (replied line kept.reads.has_begun) c.reply_to.ensures.log c.read_piece.ensures.never_falls c.reply_to.ensures.never_falls);
-      spot = c.reply_to.ensures.spot;
+      reads = rw long at (reads_more _ _ bytes _ kept.reads reads.read (begun line kept.reads.has_begun) (replied line kept.reads.has_begun) c.reply_to-replied.ensures.log c.read_piece.ensures.never_falls c.reply_to-replied.ensures.never_falls);
+      spot = c.reply_to-replied.ensures.spot;
       below = omega (arith, reads.within, c.room_after.ensures.most, c.if-read-eq-MOST.false);
       room = kept.room;
     }
@@ -136,19 +136,37 @@ returns g c =
     (short_with_piece kept.reads.stands finish [] reads below)
     (grows_both kept.reads.stands.log_grows c.reply_to_last.ensures.log)
 
--- What a cutter is inside stays the same where it is lent.
+-- What a cutter and a pointer are inside stays the same where they are lent.
 
 pub same-cutter : goal.same-cutter
 same-cutter g c = refl
 
-pub same-cutter-in_default-reply_to : goal.same-cutter-in_default-reply_to
-same-cutter-in_default-reply_to g c = refl
+pub same-cutter-in_default-replied : goal.same-cutter-in_default-replied
+same-cutter-in_default-replied g c = refl
 
 pub same-cutter-2 : goal.same-cutter-2
 same-cutter-2 g c = refl
 
+pub same-cutter-in-pieces : goal.same-cutter-in-pieces
+same-cutter-in-pieces g c = refl
+
+pub same-pointer : goal.same-pointer
+same-pointer g c = refl
+
+pub same-pointer-in_default-replied : goal.same-pointer-in_default-replied
+same-pointer-in_default-replied g c = refl
+
+pub same-pointer-2 : goal.same-pointer-2
+same-pointer-2 g c = refl
+
 pub returns-in_default-new : goal.returns-in_default-new
 returns-in_default-new g c =
+    let start : Moment = record { left = g.S.Source.left c.args.source.now; taken = g.K.Sink.taken c.args.sink.now; page = g.D.Desk.page c.args.desk.now; log = g.D.Desk.log c.args.desk.now; read_faults = g.S.Source.faults c.args.source.now; write_faults = g.K.Sink.faults c.args.sink.now } in
+    let stands = stands_first start in
+    ends_by_sink sink_fault.OutOfMemory status.Memory start start refl (λ e. absurd (cc)) (front_so_far stands) (short_so_far stands (omega arith)) stands.log_grows
+
+pub returns-in_default-new-2 : goal.returns-in_default-new-2
+returns-in_default-new-2 g c =
     let start : Moment = record { left = g.S.Source.left c.args.source.now; taken = g.K.Sink.taken c.args.sink.now; page = g.D.Desk.page c.args.desk.now; log = g.D.Desk.log c.args.desk.now; read_faults = g.S.Source.faults c.args.source.now; write_faults = g.K.Sink.faults c.args.sink.now } in
     let stands = stands_first start in
     ends_by_sink sink_fault.OutOfMemory status.Memory start start refl (λ e. absurd (cc)) (front_so_far stands) (short_so_far stands (omega arith)) stands.log_grows

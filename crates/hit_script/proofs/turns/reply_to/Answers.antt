@@ -15,5 +15,5 @@ returns-clause-replied g c =
 
 pub returns-clause-part : goal.returns-clause-part
 returns-clause-part g c =
-    handed_front c.write_all.result c.args.cutter.now (λ begun. lines (whole_lines (begun ++ c.args.piece.now))) _ (known (g.D.Desk.page c.absorb.new.desk) (g.D.Desk.log c.absorb.new.desk) c.absorb.new.pointer) _ _ c.deref.result.now c.write_all.ensures.part
+    handed_front c.write_all.result c.args.cutter.now (λ begun. lines (whole_lines (begun ++ c.args.piece.now))) (known (g.D.Desk.page c.args.desk.now) (g.D.Desk.log c.args.desk.now) c.args.pointer.now) (known (g.D.Desk.page c.absorb.new.desk) (g.D.Desk.log c.absorb.new.desk) c.absorb.new.pointer) _ _ c.deref.result.now c.write_all.ensures.part
     (λ begun has. rw (c.deref.ensures.value) (rw c.new-replies.ensures.items at (c.in_ok-absorb.ensures.replies begun has)))
