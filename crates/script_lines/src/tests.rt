@@ -81,16 +81,7 @@ fn lines_ask_for_queries(rt: HostRuntime) -> Result<(), Fail> {
     Ok(())
 }
 
-/// An event of each kind.
-const EVENTS: [Event; 5] = [
-    event(EventKind::Out, 10, Some(9)),
-    event(EventKind::Leave, 10, Some(9)),
-    event(EventKind::Over, 9, Some(10)),
-    event(EventKind::Enter, 9, None),
-    event(EventKind::Move, 9, None),
-];
-
-const fn event(kind: EventKind, target: u32, related: Option<u32>) -> Event {
+fn event(kind: EventKind, target: u32, related: Option<u32>) -> Event {
     Event {
         kind,
         target,
@@ -100,6 +91,13 @@ const fn event(kind: EventKind, target: u32, related: Option<u32>) -> Event {
 
 #[test]
 fn replies_are_printed(rt: HostRuntime) -> Result<(), Fail> {
+    let events = [
+        event(EventKind::Out, 10, Some(9)),
+        event(EventKind::Leave, 10, Some(9)),
+        event(EventKind::Over, 9, Some(10)),
+        event(EventKind::Enter, 9, None),
+        event(EventKind::Move, 9, None),
+    ];
     let mut out = Vec::new(rt.alloc());
     print(&Reply::Node(4294967295), &mut out)?;
     print(&Reply::Done, &mut out)?;
@@ -108,7 +106,7 @@ fn replies_are_printed(rt: HostRuntime) -> Result<(), Fail> {
     print(&Reply::Top(Some(7)), &mut out)?;
     print(&Reply::Top(None), &mut out)?;
     print(&Reply::Events(&[]), &mut out)?;
-    print(&Reply::Events(&EVENTS), &mut out)?;
+    print(&Reply::Events(&events), &mut out)?;
     print(&Reply::Line(LineFault::Long), &mut out)?;
     print(&Reply::Edit(EditFault::Full), &mut out)?;
     assert_eq!(rt;
