@@ -238,6 +238,13 @@ impl Page {
         answer_by(&taken)
     }
 
+    /// The id that the next node gets.
+    pub fn next_id(&self) -> u32
+        ensures { result ≡ self.now.contents.next }
+    {
+        self.frame.next
+    }
+
     /// What holds of the contents of every page.
     pub fn validity(&self)
         ensures { IsValid self.now.contents }

@@ -31,6 +31,28 @@ fn within_with<L: Ledger>(page: &Page, blank: Blank) -> bool
     }
 }
 
+/// Whether no product on the way to a node, or to one below it, passes the bound on maps: those of the node, of what holds
+/// it, and of all below it. The steps are counted by a counter of its own.
+pub fn within_from(page: &Page, id: u32) -> bool
+    requires { IsTrue (has_id page.now.contents id) }
+    ensures { result ≡ is_checked_from page.now.contents id }
+{
+    page.validity();
+    within_from_with::<Brand>(page, id, Blank::new(1))
+}
+
+// The same, with the ledger for the counter.
+fn within_from_with<L: Ledger>(page: &Page, id: u32, blank: Blank) -> bool
+    requires valid { IsValid page.now.contents }
+    requires there { IsTrue (has_id page.now.contents id) }
+    requires name { blank.name ≡ L.name }
+    requires parts { blank.parts ≡ L.parts }
+    requires some_parts { 0 < blank.parts }
+    ensures { result ≡ is_checked_from page.now.contents id }
+{
+    is_checked_from(page, id, 0, None, &mut Steps::<L>::new(blank))
+}
+
 // Whether no product on the way to a node, or to one below it, passes the bound. The space of its parent is known, which
 // is 0 for the root.
 fn is_checked_from<L: Ledger>(

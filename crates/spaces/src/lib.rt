@@ -14,7 +14,7 @@ mod factors;
 mod space;
 mod values;
 
-pub use bound::within;
+pub use bound::{within, within_from};
 pub use factors::{bottom_border, left_border, right_border, top_border};
 pub use space::{FinePoint, local_point, plain_space};
 pub use values::plain_values;

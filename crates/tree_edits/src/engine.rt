@@ -4,10 +4,11 @@ ghost use Rattle.box_tree.specs.Contents.{empty_page};
 ghost use Rattle.box_tree.specs.Edited.{IsInRange, edited, answer_of};
 ghost use Rattle.spaces.specs.Bound.{is_bounded};
 ghost use Rattle.tree_edits.specs.Edits.{first_fault};
+ghost use Rattle.tree_edits.specs.Near.{is_bounded_from, IsBoundAfter};
 
 use box_tree::{Done, Edit, EditFault, Page};
 use fractions::{Ledger, Steps};
-use spaces::within;
+use spaces::{within, within_from};
 use std::alloc::{AllocError, AllocFailed, Global};
 use std::marker::Model;
 use thiserror::Error;
@@ -77,9 +78,11 @@ impl Engine {
         ensures first_fault { IfErr result (λ why. why ≢ MemoryFault → first_fault self.old edit.now ≡ Some why) }
         ensures unchanged { OnErr result (self.new ≡ self.old) }
     {
+        self.page.validity();
         let prepared = self.page.check(edit)?;
+        let added = self.page.next_id();
         let undo = self.page.commit(prepared);
-        if within(&self.page) {
+        if is_bounded_after(&self.page, edit, added) {
             Ok(self.page.settle(undo))
         } else {
             self.page.revert(undo);
@@ -93,6 +96,34 @@ impl Engine {
         ensures bounded { IsTrue (is_bounded result.now.contents) }
     {
         &self.page
+    }
+}
+
+// Whether the page that an edit left is within the bound, where the page before it was: an edit changes no space but those
+// of the node that it names or adds, and of what is below that; without one of these, the spaces of all nodes.
+fn is_bounded_after(page: &Page, edit: &Edit, added: u32) -> bool
+    ensures { IsBoundAfter page.now.contents edit.now added result }
+{
+    page.validity();
+    match edit {
+        Edit::Add { .. } => is_bounded_from(page, added),
+        Edit::Remove { .. } => true,
+        Edit::Move { id, .. } => is_bounded_from(page, *id),
+        Edit::Place { id, .. } => is_bounded_from(page, *id),
+        Edit::Restyle { id, .. } => is_bounded_from(page, *id),
+        Edit::Scroll { id, .. } => is_bounded_from(page, *id),
+        Edit::Resize { .. } | Edit::ScrollView { .. } => within(page),
+    }
+}
+
+// Whether the node of an id and all below it are within the bound, and where it isn't in the page, all nodes.
+fn is_bounded_from(page: &Page, id: u32) -> bool
+    ensures { result ≡ is_bounded_from page.now.contents id }
+{
+    if page.has(id) {
+        within_from(page, id)
+    } else {
+        within(page)
     }
 }
 
