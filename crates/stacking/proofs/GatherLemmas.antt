@@ -5,9 +5,11 @@ use Rattle.std.specs.List.{filter, flat_map}
 use Rattle.std.proofs.lemmas.List.{append-nil, map-append}
 use Rattle.std.proofs.lemmas.List.Elements.{filter-append}
 use Rattle.box_tree.specs.declared.node.Node.{Node}
+use Rattle.box_tree.specs.declared.item.Item.{Item}
 use Rattle.box_tree.specs.Forest.{Label, Placed}
 use Rattle.box_tree.specs.Contents.{Contents, node_of, has_id, ancestor_count, IsValid}
 use Rattle.box_tree.specs.Kept.{label_of}
+use Rattle.box_tree.specs.Suits.{is_svg_content}
 use Rattle.box_tree.specs.Used.{is_in_flow, is_real_context, stack_level}
 use Rattle.box_tree.proofs.SubtreeLemmas.{few_ancestors, ancestor_count-child}
 use Rattle.stacking.specs.declared.pieces.LinePart.{LinePart}
@@ -15,8 +17,8 @@ use Rattle.stacking.specs.declared.pieces.Painted.TheVariants as painted
 use Rattle.stacking.specs.declared.pieces.LineRole.{LineRole}
 use Rattle.stacking.specs.declared.pieces.LineRole.TheVariants as role
 use Rattle.stacking.specs.declared.members.Member.{Member}
-use Rattle.stacking.specs.Painting.{LinePiece, Whole, Share, at, is_text_kind, is_entered, is_block, is_float, is_member, is_inline, is_atom, own_pieces, first_line, pieces_with, share_of, shares_in}
-use Rattle.stacking.specs.OnPage.{of_node, ids_of, gathered_in, gathered, part_of, line_parts, member_of, members_of}
+use Rattle.stacking.specs.Painting.{LinePiece, Whole, Share, at, is_text_kind, is_entered, is_block, is_float, is_member, is_inline, is_atom, own_pieces, first_line, pieces_with, share_of, shares_in, drawn}
+use Rattle.stacking.specs.OnPage.{of_node, ids_of, gathered_in, gathered, part_of, line_parts, member_of, members_of, outlines_of}
 use Rattle.stacking.proofs.PageLemmas.{gathered_from, shared, here, child_place, child-there, of_node-child, gathered-step, role-seen, child_label-seen, id-child, gathered-end}
 
 -- a list with two parts appended, before what is left
@@ -181,3 +183,17 @@ module _ (page : Contents) (valid : IsValid page) (id : ℕ) (node : Node) (seen
           ∙ ap (λ ys. member_by (Some (label_of node)) (label_of inner) ++ (if r then [] else ys)) (sym (below members_of)) in
           appended_twice xs (member_by (Some (label_of node)) (label_of inner)) (if r then [] else gathered members_of page (get_or items k 0)) (of_node (gathered_from members_of (k + 1)) page id) all xs' xs'' first second
           (ap (λ ys. xs ++ (ys ++ of_node (gathered_from members_of (k + 1)) page id)) (sym share_is) ∙ ap (λ ys. xs ++ ys) (sym (step members_of)) ∙ known)
+
+      -- the outlines
+      pub outlines-more : (b : Bool) → b ≡ is_svg_content inner.kind → (xs xs' all : List Item) →
+          xs' ≡ xs ++ (if b then drawn (label_of inner) ++ gathered outlines_of page (get_or items k 0) else []) →
+          xs ++ of_node (gathered_from outlines_of k) page id ≡ all → xs' ++ of_node (gathered_from outlines_of (k + 1)) page id ≡ all
+      outlines-more b b_is xs xs' all more known =
+          let part : List Item = if b then drawn (label_of inner) ++ gathered outlines_of page (get_or items k 0) else [] in
+          let share_is : shared outlines_of place ≡ part =
+          ap (λ c. if c then drawn place.label ++ gathered_in outlines_of place else []) (sym (b_is ∙ word (λ parent n. is_svg_content n.kind)))
+          ∙ ap (λ (n : Label). if b then drawn n ++ gathered_in outlines_of place else []) (sym (child_label-seen page valid id node seen k (get_or items k 0) 0 in_list child_is inner seen'))
+          ∙ ap (λ ys. if b then drawn (label_of inner) ++ ys else []) (sym (below outlines_of)) in
+          ap (λ ys. ys ++ of_node (gathered_from outlines_of (k + 1)) page id) more
+          ∙ append_assoc xs part (of_node (gathered_from outlines_of (k + 1)) page id)
+          ∙ ap (λ ys. xs ++ (ys ++ of_node (gathered_from outlines_of (k + 1)) page id)) (sym share_is) ∙ ap (λ ys. xs ++ ys) (sym (step outlines_of)) ∙ known

@@ -3,12 +3,13 @@ use Rattle.std.proofs.Common.{◌≡◌, ◌≢◌, ℕ, ◌+◌, ◌<◌, ◌�
 use Rattle.std.specs.Prelude.{◌&&◌, cond}
 use Rattle.std.proofs.lemmas.Bool.Decides.{nat_tests}
 use Rattle.box_tree.specs.declared.kind.Kind.{Kind}
+use Rattle.box_tree.specs.declared.kind.Kind.TheVariants.{Block, Inline, InlineBlock, Image, Svg, Text, Map, Area, Group, Shape, Inner}
 use Rattle.box_tree.specs.declared.piece.Piece.{Piece}
 use Rattle.box_tree.specs.declared.item.Item.{Item}
 use Rattle.box_tree.specs.declared.item.Part.{Part}
 use Rattle.box_tree.specs.declared.item.Part.TheVariants.{Box, Content, Outline}
 use Rattle.box_tree.specs.Forest.{Label, Forest, End, Grow, Placed, occurrences}
-use Rattle.stacking.specs.Painting.{is_replaced_kind, own, content, content_item, box_items}
+use Rattle.stacking.specs.Painting.{own, drawn, drawn_as, content_item, box_items}
 use Rattle.stacking.specs.Counting.{count, items_in, is_part, is_item, EachItemIsPaintedOnce}
 use Rattle.stacking.proofs.CountLemmas as counted
 
@@ -58,30 +59,62 @@ content-is : (node : ℕ) (part : Part) (id : ℕ) (boxes : List Piece) → time
 content-is node part id [] = omega arith
 content-is node part id (box ∷ boxes) = omega arith
 
-content-once : (node : ℕ) (part : Part) (p : Placed) → times node part (content p) ≤ (if (p.label.id == node) && is_part part Content then 1 else 0)
-content-once node part p = by_kind (is_replaced_kind p.label.kind)
+-- whether a part is drawn beside the boxes
+abbrev is_drawn : Part → Bool
+is_drawn (Box place) = false
+is_drawn Content = true
+is_drawn Outline = true
+
+few : (a b c : Bool) (k : ℕ) → (b ≡ true → c ≡ true) → k ≤ (if a && b then 1 else 0) → k ≤ (if a && c then 1 else 0)
+few true true true k implies least = least
+few true true false k implies least = absurd (let e : false ≡ true = implies refl in cc)
+few true false c k implies least = omega (arith, least)
+few false b c k implies least = least
+
+content_drawn : (part : Part) → is_part part Content ≡ true → is_drawn part ≡ true
+content_drawn (Box place) is = is
+content_drawn Content is = refl
+content_drawn Outline is = refl
+
+outline_drawn : (part : Part) → is_part part Outline ≡ true → is_drawn part ≡ true
+outline_drawn (Box place) is = is
+outline_drawn Content is = refl
+outline_drawn Outline is = refl
+
+-- what a node is drawn as beside its boxes stands once, and is of this node
+drawn-once : (node : ℕ) (part : Part) (n : Label) → times node part (drawn n) ≤ (if (n.id == node) && is_drawn part then 1 else 0)
+drawn-once node part n = by_kind n.kind
   where
-    by_kind : (replaced : Bool) → times node part (if replaced then content_item p.label.id p.label.boxes else []) ≤ (if (p.label.id == node) && is_part part Content then 1 else 0)
-    by_kind true = content-is node part p.label.id p.label.boxes
-    by_kind false = omega arith
+    by_kind : (kind : Kind) → times node part (drawn_as kind n.id n.boxes) ≤ (if (n.id == node) && is_drawn part then 1 else 0)
+    by_kind Image = few (n.id == node) (is_part part Content) (is_drawn part) _ (content_drawn part) (content-is node part n.id n.boxes)
+    by_kind Shape = few (n.id == node) (is_part part Outline) (is_drawn part) _ (outline_drawn part) (omega arith)
+    by_kind Block = omega arith
+    by_kind Inline = omega arith
+    by_kind InlineBlock = omega arith
+    by_kind Svg = omega arith
+    by_kind Text = omega arith
+    by_kind Map = omega arith
+    by_kind Area = omega arith
+    by_kind Group = omega arith
+    by_kind Inner = omega arith
 
 -- a node has each of its items once, and none of another node
-node-once : (node : ℕ) (part : Part) (p : Placed) → times node part (own p) + times node part (content p) ≤ (if p.label.id == node then 1 else 0)
-node-once node (Box j) p = by_test (p.label.id == node) (boxes-once node j p.label.id 0 p.label.boxes) (content-once node (Box j) p)
+node-once : (node : ℕ) (part : Part) (p : Placed) → times node part (own p) + times node part (drawn p.label) ≤ (if p.label.id == node then 1 else 0)
+node-once node (Box j) p = by_test (p.label.id == node) (boxes-once node j p.label.id 0 p.label.boxes) (drawn-once node (Box j) p.label)
   where
-    by_test : (a : Bool) → times node (Box j) (own p) ≤ (if a then 1 else 0) → times node (Box j) (content p) ≤ (if a && false then 1 else 0) → times node (Box j) (own p) + times node (Box j) (content p) ≤ (if a then 1 else 0)
-    by_test true few none = omega (arith, few, none)
-    by_test false few none = omega (arith, few, none)
-node-once node Content p = by_test (p.label.id == node) (boxes-no_content node p.label.id 0 p.label.boxes) (content-once node Content p)
+    by_test : (a : Bool) → times node (Box j) (own p) ≤ (if a then 1 else 0) → times node (Box j) (drawn p.label) ≤ (if a && false then 1 else 0) → times node (Box j) (own p) + times node (Box j) (drawn p.label) ≤ (if a then 1 else 0)
+    by_test true once none = omega (arith, once, none)
+    by_test false once none = omega (arith, once, none)
+node-once node Content p = by_test (p.label.id == node) (boxes-no_content node p.label.id 0 p.label.boxes) (drawn-once node Content p.label)
   where
-    by_test : (a : Bool) → times node Content (own p) ≡ 0 → times node Content (content p) ≤ (if a && true then 1 else 0) → times node Content (own p) + times node Content (content p) ≤ (if a then 1 else 0)
-    by_test true none few = omega (arith, few, none)
-    by_test false none few = omega (arith, few, none)
-node-once node Outline p = by_test (p.label.id == node) (boxes-no_outline node p.label.id 0 p.label.boxes) (content-once node Outline p)
+    by_test : (a : Bool) → times node Content (own p) ≡ 0 → times node Content (drawn p.label) ≤ (if a && true then 1 else 0) → times node Content (own p) + times node Content (drawn p.label) ≤ (if a then 1 else 0)
+    by_test true none once = omega (arith, once, none)
+    by_test false none once = omega (arith, once, none)
+node-once node Outline p = by_test (p.label.id == node) (boxes-no_outline node p.label.id 0 p.label.boxes) (drawn-once node Outline p.label)
   where
-    by_test : (a : Bool) → times node Outline (own p) ≡ 0 → times node Outline (content p) ≤ (if a && false then 1 else 0) → times node Outline (own p) + times node Outline (content p) ≤ (if a then 1 else 0)
-    by_test true none few = omega (arith, few, none)
-    by_test false none few = omega (arith, few, none)
+    by_test : (a : Bool) → times node Outline (own p) ≡ 0 → times node Outline (drawn p.label) ≤ (if a && true then 1 else 0) → times node Outline (own p) + times node Outline (drawn p.label) ≤ (if a then 1 else 0)
+    by_test true none once = omega (arith, once, none)
+    by_test false none once = omega (arith, once, none)
 
 -- trees have an item no more often than the id of its node
 items-once : (node : ℕ) (part : Part) (above : List Label) (f : Forest) → times node part (items_in above f) ≤ occurrences f node
@@ -91,8 +124,8 @@ items-once node part above (Grow n below others) =
     let test = is_item (record { node = node; part = part }) in
     omega (
       arith,
-      counted.count-append test (own p) (content p ++ (items_in (n ∷ above) below ++ items_in above others)),
-      counted.count-append test (content p) (items_in (n ∷ above) below ++ items_in above others),
+      counted.count-append test (own p) (drawn n ++ (items_in (n ∷ above) below ++ items_in above others)),
+      counted.count-append test (drawn n) (items_in (n ∷ above) below ++ items_in above others),
       counted.count-append test (items_in (n ∷ above) below) (items_in above others),
       node-once node part p,
       items-once node part (n ∷ above) below,

@@ -4,6 +4,8 @@ use Rattle.std.specs.Prelude.{if◌then◌else◌, IfOk}
 use Rattle.std.specs.List.{filter, flat_map}
 use Rattle.std.specs.Option.{option_map, option_map_or}
 use Rattle.std.proofs.lemmas.List.{map-append}
+use Rattle.box_tree.specs.declared.kind.Kind.{Kind}
+use Rattle.box_tree.specs.declared.kind.Kind.TheVariants.{Block, Inline, InlineBlock, Image, Svg, Text, Map, Area, Group, Shape, Inner}
 use Rattle.box_tree.specs.declared.node.Node.{Node}
 use Rattle.box_tree.specs.declared.item.Item.{Item}
 use Rattle.box_tree.specs.Forest.{Label, Placed}
@@ -12,9 +14,9 @@ use Rattle.box_tree.specs.Kept.{label_of}
 use Rattle.stacking.specs.declared.pieces.LinePart.{LinePart}
 use Rattle.stacking.specs.declared.members.Member.{Member}
 use Rattle.box_tree.specs.Containing.{parent_of}
-use Rattle.stacking.specs.Painting.{at, has_head, is_inline, is_replaced_kind, is_block, is_float, box_items, own, content_item, content, head, own_pieces, shares_in, reach, blocks, floats, pieces, context_members, level_of, is_on_lower_level, is_on_lower_line, painted_piece, painted_member, lines, flat, body, context_list, layer}
+use Rattle.stacking.specs.Painting.{at, has_head, is_inline, is_replaced_kind, is_block, is_float, box_items, own, content_item, content_as, content, head, own_pieces, shares_in, reach, blocks, floats, pieces, context_members, level_of, is_on_lower_level, is_on_lower_line, painted_piece, painted_member, lines, flat, body, context_list, layer}
 use Rattle.stacking.specs.Sorting.{sorted_by}
-use Rattle.stacking.specs.OnPage.{of_node, ids_of, gathered_in, gathered, part_of, line_parts, line_pieces, member_of, members_of, on_side}
+use Rattle.stacking.specs.OnPage.{of_node, ids_of, gathered_in, gathered, part_of, line_parts, line_pieces, member_of, members_of, outlines_of, on_side}
 use Rattle.stacking.specs.declared.layer.Side.TheVariants as side
 use Rattle.stacking.proofs.LevelLemmas.{flat-is, layer-is}
 use Rattle.stacking.proofs.PageLemmas.{here, of_node-seen, label-seen, ancestors-seen}
@@ -36,6 +38,12 @@ appended_five x a b c d e x1 x2 x3 x4 x5 all e1 e2 e3 e4 e5 is =
 pub ok-weaker : {A E : Type 0} (r : Result A E) (P Q : A → Type 0) → ((x : A) → P x → Q x) → IfOk r P → IfOk r Q
 ok-weaker (Ok x) P Q weaker known = weaker x known
 ok-weaker (Err e) P Q weaker known = known
+
+-- the content of a node of a kind, with the outlines of the shapes in it
+abbrev pub content_by : Kind → Label → List Item → List Item
+content_by Image n inner = content_item n.id n.boxes
+content_by Svg n inner = inner
+content_by kind n inner = []
 
 module _ (page : Contents) (valid : IsValid page) (id : ℕ) (node : Node) (seen : node_of page id ≡ Some node) where
   -- a word asked of the node and its parent as they are read
@@ -83,16 +91,29 @@ module _ (page : Contents) (valid : IsValid page) (id : ℕ) (node : Node) (seen
       by_test false = refl
 
   -- what lies on its lines
-  pub lines-seen : (b : Bool) → b ≡ is_replaced_kind node.kind → (if b then content_item node.id node.boxes else flat_map (painted_piece flat) (of_node line_pieces page id)) ≡ of_node lines page id
+  pub lines-seen : (b : Bool) → b ≡ is_replaced_kind node.kind → (if b then of_node content page id else flat_map (painted_piece flat) (of_node line_pieces page id)) ≡ of_node lines page id
   lines-seen b is =
-      ap (λ (n : Label). if b then content_item n.id n.boxes else flat_map (painted_piece flat) (of_node line_pieces page id)) (label-seen page valid id node seen)
-      ∙ ap (λ xs. if b then content_item (here page valid id node seen).label.id (here page valid id node seen).label.boxes else flat_map (painted_piece flat) xs) (of_node-seen page valid id node seen line_pieces)
-      ∙ by_test b (kind-seen b is)
+      ap (λ xs. if b then xs else flat_map (painted_piece flat) (of_node line_pieces page id)) (of_node-seen page valid id node seen content)
+      ∙ ap (λ xs. if b then content (here page valid id node seen) else flat_map (painted_piece flat) xs) (of_node-seen page valid id node seen line_pieces)
+      ∙ ap (λ c. if c then content (here page valid id node seen) else flat_map (painted_piece flat) (line_pieces (here page valid id node seen))) (kind-seen b is)
       ∙ sym (of_node-seen page valid id node seen lines)
+
+  -- its content, by its kind
+  pub content-seen : (kind : Kind) → node.kind ≡ kind → content_by kind (label_of node) (gathered outlines_of page id) ≡ of_node content page id
+  content-seen kind is = by_kind kind ∙ ap (λ k. content_as k (here page valid id node seen)) (sym is ∙ ap (λ (n : Label). n.kind) (label-seen page valid id node seen)) ∙ sym (of_node-seen page valid id node seen content)
     where
-      by_test : (c : Bool) → c ≡ is_replaced_kind (here page valid id node seen).label.kind → (if c then content_item (here page valid id node seen).label.id (here page valid id node seen).label.boxes else flat_map (painted_piece flat) (line_pieces (here page valid id node seen))) ≡ lines (here page valid id node seen)
-      by_test true is' = ap (λ c. if c then (if c then content_item (here page valid id node seen).label.id (here page valid id node seen).label.boxes else []) else flat_map (painted_piece flat) (line_pieces (here page valid id node seen))) is'
-      by_test false is' = ap (λ c. if c then (if c then content_item (here page valid id node seen).label.id (here page valid id node seen).label.boxes else []) else flat_map (painted_piece flat) (line_pieces (here page valid id node seen))) is'
+      by_kind : (k : Kind) → content_by k (label_of node) (gathered outlines_of page id) ≡ content_as k (here page valid id node seen)
+      by_kind Image = ap (λ (n : Label). content_item n.id n.boxes) (label-seen page valid id node seen)
+      by_kind Svg = of_node-seen page valid id node seen (gathered_in outlines_of)
+      by_kind Block = refl
+      by_kind Inline = refl
+      by_kind InlineBlock = refl
+      by_kind Text = refl
+      by_kind Map = refl
+      by_kind Area = refl
+      by_kind Group = refl
+      by_kind Shape = refl
+      by_kind Inner = refl
 
 -- the members of a node in tree order
 abbrev pub tree_members : Placed → List Placed

@@ -5,19 +5,19 @@ use Rattle.box_tree.specs.declared.item.Part.{Part}
 use Rattle.box_tree.specs.declared.item.Part.TheVariants.{Box, Content, Outline}
 use Rattle.box_tree.specs.Forest.{Label, Forest, End, Grow}
 use Rattle.box_tree.specs.Contents.{Contents, IsValid}
-use Rattle.stacking.specs.Painting.{own, content, layer}
+use Rattle.stacking.specs.Painting.{own, drawn, layer}
 
 -- how many of the items pass a test
 abbrev pub count : (Item → Bool) → List Item → ℕ
 count test [] = 0
 count test (item ∷ items) = (if test item then 1 else 0) + count test items
 
--- the items of trees in tree order: of each node its boxes, and its content
+-- the items of trees in tree order: of each node its boxes, and then the picture of an image or the outline of a shape
 abbrev pub items_in : List Label → Forest → List Item
 items_in above End = []
 items_in above (Grow n below others) =
     own (record { label = n; above = above; below = below })
-    ++ (content (record { label = n; above = above; below = below })
+    ++ (drawn n
     ++ (items_in (n ∷ above) below ++ items_in above others))
 
 -- the layer of the root of a page, and nothing without a root

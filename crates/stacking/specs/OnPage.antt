@@ -54,6 +54,9 @@ member_of m = record { level = level_of m; node = m.label.id; is_context = at is
 abbrev pub members_of : Share → List Member
 members_of s = map member_of s.members
 
+abbrev pub outlines_of : Share → List Item
+outlines_of s = s.outlines
+
 -- the pieces of the lines of a node, line by line
 abbrev pub line_pieces : Placed → List LinePiece
 line_pieces p = sorted_by is_on_lower_line (pieces p)

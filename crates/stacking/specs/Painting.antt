@@ -2,11 +2,12 @@
 use Rattle.std.specs.Prelude.{ℕ, zero, suc, ◌+◌, List, [], ◌∷◌, ◌++◌, map, Option, Some, None, Bool, true, false, not, ◌&&◌, ◌||◌, if◌then◌else◌, ℤ, pos, int_lt, nat_lt}
 use Rattle.std.specs.List.{filter, flat_map}
 use Rattle.box_tree.specs.declared.kind.Kind.{Kind}
-use Rattle.box_tree.specs.declared.kind.Kind.TheVariants.{Inline, Image, Text}
+use Rattle.box_tree.specs.declared.kind.Kind.TheVariants.{Inline, Image, Svg, Text, Shape}
 use Rattle.box_tree.specs.declared.piece.Piece.{Piece}
 use Rattle.box_tree.specs.declared.item.Item.{Item}
-use Rattle.box_tree.specs.declared.item.Part.TheVariants.{Box, Content}
+use Rattle.box_tree.specs.declared.item.Part.TheVariants.{Box, Content, Outline}
 use Rattle.box_tree.specs.Forest.{Label, Forest, End, Grow, height_of, Placed}
+use Rattle.box_tree.specs.Suits.{is_svg_content}
 use Rattle.box_tree.specs.Containing.{parent_of}
 use Rattle.box_tree.specs.Used.{is_floating, is_block_level, is_block_container, is_atomic, is_positioned, is_real_context, stack_level, is_in_flow}
 use Rattle.stacking.specs.Sorting.{sorted_by}
@@ -21,9 +22,10 @@ abbrev pub is_inline_kind : Kind → Bool
 is_inline_kind Inline = true
 is_inline_kind kind = false
 
--- an image, whose content is painted as one (CSS 2.2, 3.1)
+-- an image or the outermost element of SVG content, whose content is painted as one (CSS 2.2, 3.1)
 abbrev pub is_replaced_kind : Kind → Bool
 is_replaced_kind Image = true
+is_replaced_kind Svg = true
 is_replaced_kind kind = false
 
 -- the walk of a node goes on below one that is in flow and is a block level block container or an inline
@@ -69,14 +71,19 @@ box_items id place (box ∷ boxes) = record { node = id; part = Box place } ∷ 
 abbrev pub own : Placed → List Item
 own p = box_items p.label.id 0 p.label.boxes
 
--- the content of a node with these boxes: one item where it has a box
+-- the picture of an image with these boxes: one item where it has a box
 abbrev pub content_item : ℕ → List Piece → List Item
 content_item id [] = []
 content_item id (box ∷ boxes) = record { node = id; part = Content } ∷ []
 
--- the content of an image with a box
-abbrev pub content : Placed → List Item
-content p = if is_replaced_kind p.label.kind then content_item p.label.id p.label.boxes else []
+-- what a node of a kind is drawn as beside its boxes: the picture of an image with a box; the outline of a shape
+abbrev pub drawn_as : Kind → ℕ → List Piece → List Item
+drawn_as Image id boxes = content_item id boxes
+drawn_as Shape id boxes = record { node = id; part = Outline } ∷ []
+drawn_as kind id boxes = []
+
+abbrev pub drawn : Label → List Item
+drawn n = drawn_as n.kind n.id n.boxes
 
 -- the boxes of a node that is block level or atomic; those of another lie on lines
 abbrev pub head : Placed → List Item
@@ -102,6 +109,8 @@ pub record Share : Type 0 where
   pub pieces : List LinePiece
   -- the members of the stacking context around it
   pub members : List Placed
+  -- the outlines that it gives to the SVG content around it
+  pub outlines : List Item
 
 -- a piece for each of these boxes, of which the first has this number
 abbrev pub box_pieces : ℕ → ℕ → List Piece → List LinePiece
@@ -131,6 +140,7 @@ share_of p inner = record {
   reach = p ∷ (if at is_entered p then flat_map (λ s. s.reach) inner else []);
   pieces = pieces_with (flat_map (λ s. s.pieces) inner) p;
   members = (if at is_member p then p ∷ [] else []) ++ (if at is_real_context p then [] else flat_map (λ s. s.members) inner);
+  outlines = if is_svg_content p.label.kind then drawn p.label ++ flat_map (λ s. s.outlines) inner else [];
 }
 
 -- the shares of trees that stand below these ancestors, in painting order, which is the tree's
@@ -142,6 +152,19 @@ shares_of above (Grow n below others) =
 -- the shares of the children of a node
 abbrev pub shares_in : Placed → List Share
 shares_in p = shares_of (p.label ∷ p.above) p.below
+
+-- the outlines of the shapes of SVG content below a node, in tree order (SVG 2, 3.4)
+abbrev pub outlines : Placed → List Item
+outlines p = flat_map (λ s. s.outlines) (shares_in p)
+
+-- the content of a node of a kind: of an image with a box its picture; of an svg the outlines of the shapes in it
+abbrev pub content_as : Kind → Placed → List Item
+content_as Image p = content_item p.label.id p.label.boxes
+content_as Svg p = outlines p
+content_as kind p = []
+
+abbrev pub content : Placed → List Item
+content p = content_as p.label.kind p
 
 -- What a walk of a node meets.
 

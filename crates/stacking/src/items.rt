@@ -1,6 +1,6 @@
 ghost use Rattle.std.specs.Prelude.{◌≡◌, ◌++◌, ◌≤◌, ◌<◌, ◌^◌, length, IfOk, if◌then◌else◌, [], IsTrue};
 ghost use Rattle.box_tree.specs.Contents.{IsValid, has_id};
-ghost use Rattle.stacking.specs.Painting.{box_items, content_item, head, own, content};
+ghost use Rattle.stacking.specs.Painting.{box_items, head, own};
 ghost use Rattle.stacking.specs.OnPage.{of_node};
 
 use crate::memory::OutOfMemory;
@@ -50,19 +50,6 @@ pub(crate) fn push_head(page: &Page, id: u32, items: &mut Vec<Item>) -> Result<(
     let node = read(page, id);
     if has_head(parent_in(page, id), node) {
         push_boxes(node, items)?;
-    }
-    Ok(())
-}
-
-// Appends the content of a replaced node, where it has a box.
-pub(crate) fn push_content(node: &Node, items: &mut Vec<Item>) -> Result<(), OutOfMemory>
-    ensures { IfOk result (λ _. items.new.items ≡ items.old.items ++ content_item node.now.id node.now.boxes) }
-{
-    if !node.boxes.as_slice().is_empty() {
-        items.push(Item {
-            node: node.id,
-            part: Part::Content,
-        })?;
     }
     Ok(())
 }

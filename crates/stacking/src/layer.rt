@@ -4,7 +4,8 @@ ghost use Rattle.box_tree.specs.Contents.{IsValid, has_id};
 ghost use Rattle.stacking.specs.Painting.{own, blocks, floats, lines, flat, body, layer, context_members, painted_member, painted_piece};
 ghost use Rattle.stacking.specs.OnPage.{of_node, ids_of, part_of, line_pieces, member_of, is_on_side, on_side};
 
-use crate::items::{push_content, push_head, push_own};
+use crate::content::push_content;
+use crate::items::{push_head, push_own};
 use crate::members::{Member, context_members};
 use crate::memory::OutOfMemory;
 use crate::pieces::{LinePart, Painted, line_parts};
@@ -199,7 +200,7 @@ fn paint_lines(
 {
     let node = read(page, id);
     if is_replaced(node.kind) {
-        return push_content(node, items);
+        return push_content(page, id, items);
     }
     let parts = line_parts(alloc, page, id)?;
     paint_parts(alloc, page, id, &parts, items)

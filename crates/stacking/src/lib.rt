@@ -5,6 +5,7 @@
 //! nodes.
 #![tactic(auto)]
 
+mod content;
 mod context;
 mod items;
 pub mod laws;

@@ -15,7 +15,16 @@ pub(crate) fn is_text(kind: Kind) -> bool
 {
     match kind {
         Kind::Text => true,
-        Kind::Block | Kind::Inline | Kind::InlineBlock | Kind::Image => false,
+        Kind::Block
+        | Kind::Inline
+        | Kind::InlineBlock
+        | Kind::Image
+        | Kind::Svg
+        | Kind::Map
+        | Kind::Area
+        | Kind::Group
+        | Kind::Shape
+        | Kind::Inner => false,
     }
 }
 
@@ -25,7 +34,16 @@ fn is_inline_kind(kind: Kind) -> bool
 {
     match kind {
         Kind::Inline => true,
-        Kind::Block | Kind::InlineBlock | Kind::Image | Kind::Text => false,
+        Kind::Block
+        | Kind::InlineBlock
+        | Kind::Image
+        | Kind::Svg
+        | Kind::Text
+        | Kind::Map
+        | Kind::Area
+        | Kind::Group
+        | Kind::Shape
+        | Kind::Inner => false,
     }
 }
 
@@ -34,8 +52,16 @@ pub(crate) fn is_replaced(kind: Kind) -> bool
     ensures { result ≡ is_replaced_kind kind }
 {
     match kind {
-        Kind::Image => true,
-        Kind::Block | Kind::Inline | Kind::InlineBlock | Kind::Text => false,
+        Kind::Image | Kind::Svg => true,
+        Kind::Block
+        | Kind::Inline
+        | Kind::InlineBlock
+        | Kind::Text
+        | Kind::Map
+        | Kind::Area
+        | Kind::Group
+        | Kind::Shape
+        | Kind::Inner => false,
     }
 }
 

@@ -38,6 +38,14 @@ const DISPLAY_BLOCK: Look = Look {
     ..PLAIN
 };
 
+const BOX: Piece = Piece {
+    line: 0,
+    l: 0,
+    t: 0,
+    w: 50,
+    h: 50,
+};
+
 // A relative node with a z-index.
 fn with_z(z: i32) -> Look {
     Look {
@@ -46,20 +54,22 @@ fn with_z(z: i32) -> Look {
     }
 }
 
-// Adds a node with one box after the other children of its parent.
+// The boxes of a node: SVG content has none, and every other node one.
+fn boxes_of(alloc: Global, kind: Kind) -> Result<PieceList, Fail> {
+    let boxes = match kind {
+        Kind::Group | Kind::Shape | Kind::Inner => Vec::new(alloc),
+        _ => Vec::from_array(alloc, [BOX])?,
+    };
+    Ok(PieceList(boxes))
+}
+
+// Adds a node after the other children of its parent.
 fn add(
     rt: &impl Abort,
     alloc: Global,
     page: &mut Page,
     (parent, at, kind, look): (u32, u32, Kind, Look),
 ) -> Result<(), Fail> {
-    let piece = Piece {
-        line: 0,
-        l: 0,
-        t: 0,
-        w: 50,
-        h: 50,
-    };
     let mut style = Style::new(alloc);
     style.position = look.position;
     style.z = look.z;
@@ -70,7 +80,7 @@ fn add(
         parent,
         at,
         kind,
-        boxes: PieceList(Vec::from_array(alloc, [piece])?),
+        boxes: boxes_of(alloc, kind)?,
         style,
     };
     assert!(rt; edit.in_range());
@@ -131,6 +141,19 @@ fn layers_are_walked_in_painting_order(rt: HostRuntime) -> Result<(), Fail> {
             ]
             .as_slice(),
             [1, 2, 3, 2].as_slice(),
+        ),
+        // the outlines of the shapes in an svg, which stands in a line: those of a group, and one beside it
+        (
+            [
+                root,
+                (1, 0, Kind::Svg, PLAIN),
+                (2, 0, Kind::Group, with_z(-1)),
+                (3, 0, Kind::Shape, PLAIN),
+                (2, 1, Kind::Shape, PLAIN),
+                (1, 1, Kind::Block, PLAIN),
+            ]
+            .as_slice(),
+            [1, 6, 2, 4, 5].as_slice(),
         ),
         // a block in an inline is painted below the inline, and an inline-block as one
         (
