@@ -4,13 +4,11 @@ use Rattle.std.specs.Prelude.{◌&&◌}
 use Rattle.std.proofs.lemmas.Bool.{false≢true}
 use Rattle.std.specs.List.{list_all}
 use Rattle.std.specs.Option.{option_map, option_and_then}
-use Rattle.computed_style.specs.declared.style.Position.{Position}
 use Rattle.affine.specs.declared.map.Parts.{Parts}
 use Rattle.box_tree.specs.declared.viewport.Viewport.{Viewport}
 use Rattle.box_tree.specs.Forest.{Label, Forest, End, Grow, Placed, EachNode}
 use Rattle.box_tree.specs.Contents.{Contents, placed_of, IsValid}
-use Rattle.box_tree.specs.Used.{used_position}
-use Rattle.box_tree.specs.Containing.{Standing, parent_of, may_hold, outermost, holders_among, containing_block_chain}
+use Rattle.box_tree.specs.Containing.{Standing, parent_of, sought, may_hold, outermost, holders_among, containing_block_chain}
 use Rattle.box_tree.proofs.MoveLemmas.{each-placed}
 use Rattle.box_tree.proofs.PlacedLemmas.{AreAtPlaces, page-at_places}
 use Rattle.box_tree.proofs.ContainingLemmas.{AreAncestors, are_ancestors}
@@ -35,7 +33,7 @@ record IsCheckedAlong (viewport : Viewport) (n : Standing) (holders : List Stand
 
 checked_along-some : (viewport : Viewport) (n : Standing) (holders : List Standing) (m : Parts) → checked_along viewport n holders ≡ Some m → IsCheckedAlong viewport n holders m
 checked_along-some viewport n [] m is =
-    let known = checked-some m (outer_space viewport (outermost (used_position n.label))) (space_factors None n) is in
+    let known = checked-some m (outer_space viewport (outermost (sought n.label))) (space_factors None n) is in
     record { value = known.value; within = known.within }
 checked_along-some viewport n (holder ∷ holders) m is = by_outer (λ start outer. checked_along-some viewport holder holders start outer) (checked_along viewport holder holders) refl is
   where
@@ -53,7 +51,7 @@ AreBoundedHolders viewport [] = Unit {0}
 AreBoundedHolders viewport (holder ∷ holders) = IsBoundedAlong viewport holder holders × AreBoundedHolders viewport holders
 
 checked_along-all : (viewport : Viewport) (n : Standing) (holders : List Standing) → IsBoundedAlong viewport n holders → AreBoundedHolders viewport holders → checked_along viewport n holders ≡ Some (space_along viewport n holders)
-checked_along-all viewport n [] within outer = checked-all (outer_space viewport (outermost (used_position n.label))) (space_factors None n) within
+checked_along-all viewport n [] within outer = checked-all (outer_space viewport (outermost (sought n.label))) (space_factors None n) within
 checked_along-all viewport n (holder ∷ holders) within outer =
     ap (λ (o : Option Parts). checked_products o (space_factors (Some holder) n)) (checked_along-all viewport holder holders outer.0 outer.1)
     ∙ checked-all (space_along viewport holder holders) (space_factors (Some holder) n) within
@@ -73,18 +71,18 @@ module _ (page : Contents) (valid : IsValid page) (bounded : IsTrue (is_bounded 
   bounded-placed : (id : ℕ) (p : Placed) → placed_of page id ≡ Some p → IsBoundedBelow page.viewport p.above p.label
   bounded-placed id p found = (each-placed (IsBoundedBelow page.viewport) page.tree [] id p (each-bounded page.viewport [] page.tree bounded) found).0
 
-  bounded-holders : (position : Position) (above : List Label) → AreAncestors page above → AreBoundedHolders page.viewport (holders_among position above)
-  bounded-holders position [] stand = tt
-  bounded-holders position (n ∷ above) stand = by_test (bounded-holders (used_position n) above stand.1) (bounded-holders position above stand.1) (may_hold position (parent_of above) n)
+  bounded-holders : (seeker : Label) (above : List Label) → AreAncestors page above → AreBoundedHolders page.viewport (holders_among (sought seeker) above)
+  bounded-holders seeker [] stand = tt
+  bounded-holders seeker (n ∷ above) stand = by_test (bounded-holders n above stand.1) (bounded-holders seeker above stand.1) (may_hold (sought seeker) (parent_of above) n)
     where
-      by_test : AreBoundedHolders page.viewport (holders_among (used_position n) above) → AreBoundedHolders page.viewport (holders_among position above) → (holds : Bool) → AreBoundedHolders page.viewport (if holds then record { label = n; above = above } ∷ holders_among (used_position n) above else holders_among position above)
+      by_test : AreBoundedHolders page.viewport (holders_among (sought n) above) → AreBoundedHolders page.viewport (holders_among (sought seeker) above) → (holds : Bool) → AreBoundedHolders page.viewport (if holds then record { label = n; above = above } ∷ holders_among (sought n) above else holders_among (sought seeker) above)
       by_test after beyond true = (bounded-placed n.id _ stand.0.found, after)
       by_test after beyond false = beyond
 
   pub checked-placed : (id : ℕ) (p : Placed) → placed_of page id ≡ Some p → checked_at page.viewport (standing_at p) ≡ Some (space_along page.viewport (standing_at p) (containing_block_chain (standing_at p)))
   checked-placed id p found =
       checked_along-all page.viewport (standing_at p) (containing_block_chain (standing_at p)) (bounded-placed id p found)
-      (bounded-holders (used_position p.label) p.above (are_ancestors page p.above id p valid found refl))
+      (bounded-holders p.label p.above (are_ancestors page p.above id p valid found refl))
 
   -- each space is there
   pub checked-space : (id : ℕ) → checked_space page id ≡ space page id

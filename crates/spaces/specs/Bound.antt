@@ -6,8 +6,7 @@ use Rattle.affine.specs.Map.{product}
 use Rattle.box_tree.specs.declared.viewport.Viewport.{Viewport}
 use Rattle.box_tree.specs.Forest.{Label, Forest, End, Grow}
 use Rattle.box_tree.specs.Contents.{Contents}
-use Rattle.box_tree.specs.Used.{used_position}
-use Rattle.box_tree.specs.Containing.{Standing, outermost, containing_block_chain}
+use Rattle.box_tree.specs.Containing.{Standing, sought, outermost, containing_block_chain}
 use Rattle.spaces.specs.Spaces.{outer_space, space_factors, space_along}
 
 -- whether a map is within the bound: a, b, c, d and q are at most 2^44 in size, e and f at most 2^70
@@ -24,7 +23,7 @@ products_after start (factor ∷ factors) = product start factor ∷ products_af
 -- the partial products of the space of a node with these containing blocks, nearest first: the product after each of its
 -- factors
 abbrev pub partial_products_along : Viewport → Standing → List Standing → List Parts
-partial_products_along viewport n [] = products_after (outer_space viewport (outermost (used_position n.label))) (space_factors None n)
+partial_products_along viewport n [] = products_after (outer_space viewport (outermost (sought n.label))) (space_factors None n)
 partial_products_along viewport n (holder ∷ holders) = products_after (space_along viewport holder holders) (space_factors (Some holder) n)
 
 abbrev pub partial_products : Viewport → Standing → List Parts

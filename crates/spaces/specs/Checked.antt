@@ -6,8 +6,7 @@ use Rattle.affine.specs.Map.{product}
 use Rattle.box_tree.specs.declared.viewport.Viewport.{Viewport}
 use Rattle.box_tree.specs.Forest.{Label, Forest, End, Grow}
 use Rattle.box_tree.specs.Contents.{Contents, placed_of}
-use Rattle.box_tree.specs.Used.{used_position}
-use Rattle.box_tree.specs.Containing.{Standing, parent_of, outermost, containing_block_chain}
+use Rattle.box_tree.specs.Containing.{Standing, parent_of, sought, outermost, containing_block_chain}
 use Rattle.spaces.specs.Spaces.{outer_space, own_factors, inner_factors, space_factors, standing_at}
 use Rattle.spaces.specs.Bound.{is_within_bound}
 
@@ -25,7 +24,7 @@ checked_products start factors = fold then_product start factors
 
 -- the space of a node with these containing blocks, where no product on the way there passes the bound
 abbrev pub checked_along : Viewport → Standing → List Standing → Option Parts
-checked_along viewport n [] = checked_products (Some (outer_space viewport (outermost (used_position n.label)))) (space_factors None n)
+checked_along viewport n [] = checked_products (Some (outer_space viewport (outermost (sought n.label)))) (space_factors None n)
 checked_along viewport n (holder ∷ holders) = checked_products (checked_along viewport holder holders) (space_factors (Some holder) n)
 
 abbrev pub checked_at : Viewport → Standing → Option Parts

@@ -13,8 +13,8 @@ use Rattle.box_tree.specs.declared.containing.Holder.{Holder}
 use Rattle.box_tree.specs.declared.containing.Holder.TheVariants.{Node as HolderNode, Initial, Viewport as HolderViewport}
 use Rattle.box_tree.specs.Forest.{Label, Placed}
 use Rattle.box_tree.specs.Contents.{Contents, placed_of}
-use Rattle.box_tree.specs.Used.{used_position, is_transformed, is_clipping, is_block_container}
-use Rattle.box_tree.specs.Containing.{Standing, parent_of, outermost, containing_block_chain}
+use Rattle.box_tree.specs.Used.{has_acting_transform, is_clipping, is_block_container}
+use Rattle.box_tree.specs.Containing.{Standing, parent_of, sought, outermost, containing_block_chain}
 use Rattle.spaces.specs.declared.space.FinePoint.{FinePoint}
 
 -- the translation by a point of whole units
@@ -65,7 +65,7 @@ transform_around n doubled =
 -- none that counts
 abbrev pub own_factors : Option Label → Label → List Parts
 own_factors parent n =
-    if is_transformed parent n then transform_around n (doubled_origin n.style.origin (first_box n.boxes)) else moving_by n.anchor ∷ []
+    if has_acting_transform parent n then transform_around n (doubled_origin n.style.origin (first_box n.boxes)) else moving_by n.anchor ∷ []
 
 -- the initial containing block is moved by minus the scroll of the viewport
 abbrev pub scrolled : Viewport → Parts
@@ -101,7 +101,7 @@ space_factors holder n = holder_factors holder ++ own_factors (parent_of n.above
 
 -- the space of a node with these containing blocks, nearest first: that of the nearest, and then its factors in order
 abbrev pub space_along : Viewport → Standing → List Standing → Parts
-space_along viewport n [] = fold product (outer_space viewport (outermost (used_position n.label))) (space_factors None n)
+space_along viewport n [] = fold product (outer_space viewport (outermost (sought n.label))) (space_factors None n)
 space_along viewport n (holder ∷ holders) = fold product (space_along viewport holder holders) (space_factors (Some holder) n)
 
 -- a node with its ancestors, by its place

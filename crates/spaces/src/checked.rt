@@ -13,7 +13,7 @@ use crate::factors::{
     doubled_origin, from_origin, moving_by, padding_corner, scroll_factor, scrolled, to_origin,
 };
 use affine::{Map, compose, identity, matrix};
-use box_tree::{Holder, Node, Page, is_transformed};
+use box_tree::{Holder, Node, Page, has_acting_transform};
 use computed_style::{Function, Functions};
 use fractions::{Ledger, Spot, Steps};
 
@@ -107,7 +107,7 @@ fn own(around: Option<Map>, parent: Option<&Node>, node: &Node) -> Option<Map>
     requires { HasNumbersInRange (label_of node.now) }
     ensures { result ≡ checked_products around (own_factors (option_map label_of (option_copied parent.entry)) (label_of node.now)) }
 {
-    if is_transformed(parent, node) {
+    if has_acting_transform(parent, node) {
         transformed(around, node, doubled_origin(node))
     } else {
         product(around, &moving_by(node.anchor))
