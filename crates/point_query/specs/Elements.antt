@@ -6,7 +6,7 @@ use Rattle.computed_style.specs.declared.inherited.Inherited.{Inherited}
 use Rattle.computed_style.specs.PointerEvents.{box_is_target}
 use Rattle.corner_shapes.specs.Held.{in_rounded}
 use Rattle.box_tree.specs.declared.kind.Kind.{Kind}
-use Rattle.box_tree.specs.declared.kind.Kind.TheVariants.{Block, Inline, InlineBlock, Image, Text}
+use Rattle.box_tree.specs.declared.kind.Kind.TheVariants.{Block, Inline, InlineBlock, Image, Svg, Text, Map, Area, Group, Shape, Inner}
 use Rattle.box_tree.specs.declared.item.Item.{Item}
 use Rattle.box_tree.specs.declared.item.Part.{Part}
 use Rattle.box_tree.specs.declared.item.Part.TheVariants.{Box, Content, Outline}
@@ -47,7 +47,13 @@ element_as Block parent own = own
 element_as Inline parent own = own
 element_as InlineBlock parent own = own
 element_as Image parent own = own
+element_as Svg parent own = own
 element_as Text parent own = parent
+element_as Map parent own = own
+element_as Area parent own = own
+element_as Group parent own = own
+element_as Shape parent own = own
+element_as Inner parent own = own
 
 -- the element of an item: its node, and for the box of a text the parent of that
 abbrev pub element_of : Contents → Item → ℕ

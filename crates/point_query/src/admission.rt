@@ -48,8 +48,17 @@ fn element_of(node: &Node) -> u32
     ensures { result ≡ element_as node.now.kind node.now.parent node.now.id }
 {
     match node.kind {
-        Kind::Block | Kind::Inline | Kind::InlineBlock | Kind::Image => node.id,
         Kind::Text => node.parent,
+        Kind::Block
+        | Kind::Inline
+        | Kind::InlineBlock
+        | Kind::Image
+        | Kind::Svg
+        | Kind::Map
+        | Kind::Area
+        | Kind::Group
+        | Kind::Shape
+        | Kind::Inner => node.id,
     }
 }
 
