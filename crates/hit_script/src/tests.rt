@@ -16,6 +16,7 @@ mod maps;
 mod painting;
 mod pointer;
 mod scripts;
+mod scrolls;
 mod values;
 
 /// A piece as large as any.

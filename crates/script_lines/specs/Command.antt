@@ -12,7 +12,7 @@ use Rattle.computed_style.specs.declared.style.Style.{Style}
 use Rattle.box_tree.specs.declared.kind.Kind.{Kind}
 use Rattle.box_tree.specs.declared.kind.Kind.TheVariants.{Block, Inline, InlineBlock, Image, Text}
 use Rattle.box_tree.specs.declared.piece.Piece.{Piece}
-use Rattle.box_tree.specs.declared.edit.Edit.TheVariants.{Add, Remove, Move, Place, Restyle, Resize}
+use Rattle.box_tree.specs.declared.edit.Edit.TheVariants.{Add, Remove, Move, Place, Restyle, Scroll, ScrollView, Resize}
 use Rattle.box_tree.specs.Edited.{IsInRange}
 use Rattle.box_tree.specs.Contents.{IsWithin}
 use Rattle.script_lines.specs.Numbers.{◌>>=◌, number_within, coordinate, side, number_to, is_array_of, is_object_of}
@@ -173,16 +173,29 @@ resize_fields d = do
 unfoldable pub resize_of : Data → Option Command
 resize_of d = if is_object_of 4 d then resize_fields d else None
 
--- the point that a query asks about
-abbrev pub point_fields : Data → Option (ℤ × ℤ)
+-- a point
+unfoldable pub point_fields : Data → Option (ℤ × ℤ)
 point_fields d = do
   x ← get (codes "x") d >>= coordinate
   y ← get (codes "y") d >>= coordinate
   Some (x, y)
 
--- the row of a query at a point, its keys in any order and no other key
+abbrev pub scroll_fields : Data → Option Command
+scroll_fields d = do
+  id ← get (codes "id") d >>= id_of
+  point ← point_fields d
+  Some (Edit (Scroll id point.0 point.1))
+
+-- the row of `scroll`, its keys in any order and no other key
+unfoldable pub scroll_of : Data → Option Command
+scroll_of d = if is_object_of 4 d then scroll_fields d else None
+
+-- the row of an op that names a point alone, its keys in any order and no other key
 unfoldable pub point_of : Data → Option (ℤ × ℤ)
 point_of d = if is_object_of 3 d then point_fields d else None
+
+abbrev pub scroll_view_of : Data → Option Command
+scroll_view_of d = option_map (λ point. Edit (ScrollView point.0 point.1)) (point_of d)
 
 abbrev pub hit_of : Data → Option Command
 hit_of d = option_map (λ point. Hit point.0 point.1) (point_of d)
@@ -205,6 +218,8 @@ row_named op d =
     else if bytes_eq op (codes "move") then move_of d
     else if bytes_eq op (codes "place") then place_of d
     else if bytes_eq op (codes "style") then restyle_of d
+    else if bytes_eq op (codes "scroll") then scroll_of d
+    else if bytes_eq op (codes "scrollview") then scroll_view_of d
     else if bytes_eq op (codes "resize") then resize_of d
     else if bytes_eq op (codes "hit") then hit_of d
     else if bytes_eq op (codes "top") then top_of d

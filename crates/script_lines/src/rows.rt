@@ -4,7 +4,7 @@ ghost use Rattle.serde_json.specs.View.{view};
 ghost use Rattle.computed_style.specs.Ranges.{IsStyleInRange};
 ghost use Rattle.box_tree.specs.Contents.{IsSpotInRange, IsMaxInRange, IsWithin};
 ghost use Rattle.box_tree.specs.Edited.{IsId};
-ghost use Rattle.script_lines.specs.Command.{new_place, new_node, add_of, remove_of, move_of, layout, place_of, restyle_of, resize_of, point_of, hit_of, top_of, pointer_of, refresh_of, command_reading, IsAskable};
+ghost use Rattle.script_lines.specs.Command.{new_place, new_node, add_of, remove_of, move_of, layout, place_of, restyle_of, resize_of, point_fields, scroll_of, scroll_view_of, point_of, hit_of, top_of, pointer_of, refresh_of, command_reading, IsAskable};
 
 use crate::command::Command;
 use crate::style::style_from;
@@ -160,7 +160,39 @@ fn resize_from(value: &Value) -> Option<Command>
     Some(Command::Edit(Edit::Resize { w, h, max }))
 }
 
-// The point that a query asks about.
+// A point.
+#[tactic(auto, unfolding(crate::specs::Command::point_fields))]
+fn coordinates(value: &Value) -> Option<(i64, i64)>
+    ensures value { result ≡ point_fields (view value.now) }
+    ensures in_range { IfSome result (λ point. IsWithin 26 point.0 × IsWithin 26 point.1) }
+{
+    let x = coordinate(value.get("x"))?;
+    let y = coordinate(value.get("y"))?;
+    Some((x, y))
+}
+
+#[tactic(auto, unfolding(crate::specs::Command::scroll_of))]
+fn scroll_from(value: &Value) -> Option<Command>
+    ensures value { result ≡ scroll_of (view value.now) }
+    ensures in_range { IfSome result IsAskable }
+{
+    if !is_object_of(value, 4) {
+        return None;
+    }
+    let id = id_from(value.get("id"))?;
+    let (x, y) = coordinates(value)?;
+    Some(Command::Edit(Edit::Scroll { id, x, y }))
+}
+
+fn scroll_view_from(value: &Value) -> Option<Command>
+    ensures value { result ≡ scroll_view_of (view value.now) }
+    ensures in_range { IfSome result IsAskable }
+{
+    let (x, y) = point_from(value)?;
+    Some(Command::Edit(Edit::ScrollView { x, y }))
+}
+
+// The point of an op that names a point alone.
 #[tactic(auto, unfolding(crate::specs::Command::point_of))]
 fn point_from(value: &Value) -> Option<(i64, i64)>
     ensures value { result ≡ point_of (view value.now) }
@@ -169,9 +201,7 @@ fn point_from(value: &Value) -> Option<(i64, i64)>
     if !is_object_of(value, 3) {
         return None;
     }
-    let x = coordinate(value.get("x"))?;
-    let y = coordinate(value.get("y"))?;
-    Some((x, y))
+    coordinates(value)
 }
 
 fn hit_from(value: &Value) -> Option<Command>
@@ -221,6 +251,8 @@ pub fn command_from(alloc: Global, value: &Value) -> Result<Option<Command>, All
         Some("move") => Ok(move_from(value)),
         Some("place") => place_from(alloc, value),
         Some("style") => restyle_from(alloc, value),
+        Some("scroll") => Ok(scroll_from(value)),
+        Some("scrollview") => Ok(scroll_view_from(value)),
         Some("resize") => Ok(resize_from(value)),
         Some("hit") => Ok(hit_from(value)),
         Some("top") => Ok(top_from(value)),

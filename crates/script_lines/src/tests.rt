@@ -2,7 +2,7 @@
 
 use crate::{Command, LineFault, Reply, command_of, is_blank, print};
 use box_tree::{Edit, EditFault, Kind};
-use computed_style::{Ends, Function, PointerEvents, Position, Rule, Style};
+use computed_style::{Ends, Function, Overflow, PointerEvents, Position, Rule, Style};
 use mouse_events::{Event, EventKind};
 use std::alloc::Global;
 use std::process::Abort;
@@ -260,7 +260,6 @@ fn each_key_of_a_style_has_its_least_and_its_greatest_value(rt: HostRuntime) -> 
             r#"{"z":0,"position":"fixed","opacity":5,"display":"block"}"#,
             Some((Position::Fixed, false, Some(0), 5, [0; 4], true)),
         ),
-        (r#"{"radii":[0,0,0,0,0,0,0,0]}"#, None),
         (r#"{"zindex":1}"#, None),
         (r#"[]"#, None),
         (r#"null"#, None),
@@ -280,6 +279,49 @@ fn set_by(style: &Style) -> Set {
         style.border,
         style.display_block,
     )
+}
+
+#[test]
+fn an_overflow_has_its_values_and_radii_their_least_and_greatest(
+    rt: HostRuntime,
+) -> Result<(), Fail> {
+    let alloc = rt.alloc();
+    let none = [0; 8];
+    for (text, expected) in [
+        (r#"{}"#, Some((None, none))),
+        (
+            r#"{"overflow":"visible"}"#,
+            Some((Some(Overflow::Visible), none)),
+        ),
+        (
+            r#"{"overflow":"hidden"}"#,
+            Some((Some(Overflow::Clip), none)),
+        ),
+        (
+            r#"{"overflow":"scroll"}"#,
+            Some((Some(Overflow::Clip), none)),
+        ),
+        (r#"{"overflow":"auto"}"#, Some((Some(Overflow::Auto), none))),
+        (r#"{"overflow":"clip"}"#, None),
+        (r#"{"overflow":0}"#, None),
+        (
+            r#"{"radii":[1048576,1,2,3,4,5,6,0]}"#,
+            Some((None, [1048576, 1, 2, 3, 4, 5, 6, 0])),
+        ),
+        (
+            r#"{"radii":[0,7,6,5,4,3,2,1048576],"overflow":"auto"}"#,
+            Some((Some(Overflow::Auto), [0, 7, 6, 5, 4, 3, 2, 1048576])),
+        ),
+        (r#"{"radii":[1048577,0,0,0,0,0,0,0]}"#, None),
+        (r#"{"radii":[0,0,0,0,0,0,0,1048577]}"#, None),
+        (r#"{"radii":[0,-1,0,0,0,0,0,0]}"#, None),
+        (r#"{"radii":[0,0,0,0,0,0,0]}"#, None),
+        (r#"{"radii":[0,0,0,0,0,0,0,0,0]}"#, None),
+    ] {
+        let set = added(alloc, r#""block""#, text)?.map(|node| (node.1.overflow, node.1.radii));
+        assert_eq!(rt; set, expected, "{text}");
+    }
+    Ok(())
 }
 
 // The functions of the transform of such a style and its origin.
@@ -566,6 +608,67 @@ fn a_style_is_named_by_an_id_and_an_object(rt: HostRuntime) -> Result<(), Fail> 
         br#"{"op":"style","id":1,"style":{"color":0}}"#.as_slice(),
     ] {
         assert_fault(&rt, alloc, line, LineFault::Command);
+    }
+    Ok(())
+}
+
+// What a scroll names, with no id for that of the viewport, and none where a line is no scroll.
+fn scrolled(alloc: Global, line: &[u8]) -> Option<(Option<u32>, i64, i64)> {
+    match command_of(alloc, line) {
+        Ok(Command::Edit(Edit::Scroll { id, x, y })) => Some((Some(id), x, y)),
+        Ok(Command::Edit(Edit::ScrollView { x, y })) => Some((None, x, y)),
+        _ => None,
+    }
+}
+
+#[test]
+fn scrolls_have_a_point_and_that_of_a_node_an_id(rt: HostRuntime) -> Result<(), Fail> {
+    for (line, expected) in [
+        (
+            br#"{"op":"scroll","id":4294967295,"x":-67108864,"y":67108864}"#.as_slice(),
+            Some((Some(4294967295), -67108864, 67108864)),
+        ),
+        (
+            br#"{"y":-2,"x":1,"id":1,"op":"scroll"}"#.as_slice(),
+            Some((Some(1), 1, -2)),
+        ),
+        (br#"{"op":"scroll","id":0,"x":0,"y":0}"#.as_slice(), None),
+        (
+            br#"{"op":"scroll","id":4294967296,"x":0,"y":0}"#.as_slice(),
+            None,
+        ),
+        (
+            br#"{"op":"scroll","id":1,"x":67108865,"y":0}"#.as_slice(),
+            None,
+        ),
+        (
+            br#"{"op":"scroll","id":1,"x":0,"y":-67108865}"#.as_slice(),
+            None,
+        ),
+        (br#"{"op":"scroll","id":1,"x":0}"#.as_slice(), None),
+        (
+            br#"{"op":"scroll","id":1,"x":0,"y":0,"at":0}"#.as_slice(),
+            None,
+        ),
+        (
+            br#"{"op":"scrollview","x":67108864,"y":-67108864}"#.as_slice(),
+            Some((None, 67108864, -67108864)),
+        ),
+        (
+            br#"{"op":"scrollview","x":-67108865,"y":0}"#.as_slice(),
+            None,
+        ),
+        (
+            br#"{"op":"scrollview","x":0,"y":67108865}"#.as_slice(),
+            None,
+        ),
+        (
+            br#"{"op":"scrollview","id":1,"x":0,"y":0}"#.as_slice(),
+            None,
+        ),
+        (br#"{"op":"scrollview"}"#.as_slice(), None),
+    ] {
+        assert_eq!(rt; scrolled(rt.alloc(), line), expected);
     }
     Ok(())
 }

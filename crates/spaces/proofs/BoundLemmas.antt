@@ -1,6 +1,6 @@
 -- The test of the bound is the bound.
-use Rattle.std.proofs.Common.{◌≡◌, ℕ, ◌^◌, ◌≤◌, Option, Some, None, Bool, true, false, is_some, IsTrue, IsSome, if◌then◌else◌, refl, sym, ap, ◌∙◌, arith}
-use Rattle.std.specs.Prelude.{◌↔◌, IfSome, unsigned_abs}
+use Rattle.std.proofs.Common.{◌≡◌, Option, Some, None, Bool, true, false, IsSome, if◌then◌else◌, refl, sym, ap, ◌∙◌, arith}
+use Rattle.std.specs.Prelude.{◌↔◌, IfSome}
 use Rattle.std.proofs.lemmas.Bool.{false≢true}
 use Rattle.std.proofs.lemmas.Bool.Decides.{nat_tests}
 use Rattle.affine.specs.declared.map.Parts.{Parts}

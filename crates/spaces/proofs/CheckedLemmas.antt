@@ -1,14 +1,13 @@
 -- No product on the way to any node passes the bound just where no partial product of any node does.
 use Rattle.std.proofs.Common.{◌≡◌, ℕ, List, [], ◌∷◌, Option, Some, None, Bool, true, false, is_some, IsTrue, if◌then◌else◌, refl, sym, ap, ◌∙◌, subst}
-use Rattle.std.specs.Prelude.{fold, ◌&&◌}
+use Rattle.std.specs.Prelude.{◌&&◌}
 use Rattle.std.proofs.lemmas.Bool.{false≢true}
 use Rattle.std.specs.List.{list_all}
 use Rattle.std.specs.Option.{option_map, option_and_then}
 use Rattle.computed_style.specs.declared.style.Position.{Position}
 use Rattle.affine.specs.declared.map.Parts.{Parts}
-use Rattle.affine.specs.Map.{product}
 use Rattle.box_tree.specs.declared.viewport.Viewport.{Viewport}
-use Rattle.box_tree.specs.Forest.{Label, Forest, End, Grow, Placed, placed_in, EachNode}
+use Rattle.box_tree.specs.Forest.{Label, Forest, End, Grow, Placed, EachNode}
 use Rattle.box_tree.specs.Contents.{Contents, placed_of, IsValid}
 use Rattle.box_tree.specs.Used.{used_position}
 use Rattle.box_tree.specs.Containing.{Standing, parent_of, may_hold, outermost, holders_among, containing_block_chain}

@@ -1,6 +1,5 @@
 -- The padding corner of a node with a box.
-use Rattle.std.proofs.Common.{◌≡◌, ◌≢◌, ℤ, pos, ◌+ℤ◌, List, [], ◌∷◌, length, ◌==◌, false, refl}
-use Rattle.affine.specs.declared.map.Parts.{Parts}
+use Rattle.std.proofs.Common.{◌≡◌, ◌≢◌, pos, ◌+ℤ◌, List, [], ◌∷◌, length, ◌==◌, false, refl}
 use Rattle.affine.specs.Map.{translation}
 use Rattle.box_tree.specs.declared.piece.Piece.{Piece}
 use Rattle.box_tree.specs.Forest.{Label}

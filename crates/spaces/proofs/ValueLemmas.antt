@@ -1,18 +1,16 @@
 -- The values of a node from those of its parent.
-use Rattle.std.proofs.Common.{◌≡◌, ℕ, ◌<◌, List, [], ◌∷◌, ◌++◌, map, reverse, length, Option, Some, None, Bool, true, false, is_some, if◌then◌else◌, refl, sym, ap, ◌∙◌}
+use Rattle.std.proofs.Common.{◌≡◌, ℕ, List, [], ◌∷◌, map, reverse, Option, Some, None, false, is_some, if◌then◌else◌, refl, sym, ap, ◌∙◌}
 use Rattle.std.specs.Prelude.{fold}
 use Rattle.std.specs.Option.{option_map, option_map_or}
 use Rattle.std.proofs.lemmas.List.{reverse-append}
 use Rattle.std.proofs.lemmas.List.Sums.{fold-append}
 use Rattle.computed_style.specs.declared.style.Style.{Style}
-use Rattle.computed_style.specs.declared.inherited.Inherited.{Inherited}
 use Rattle.computed_style.specs.Inheritance.{computed, initial_values}
 use Rattle.box_tree.specs.declared.node.Node.{Node}
 use Rattle.box_tree.specs.Forest.{Label, Placed}
 use Rattle.box_tree.specs.Contents.{Contents, node_of, placed_of, has_id, IsValid}
 use Rattle.box_tree.specs.Edited.{ancestors_below}
 use Rattle.box_tree.specs.Suits.{is_text}
-use Rattle.box_tree.specs.Kept.{label_of}
 use Rattle.box_tree.proofs.PlacedLemmas.{seen_at}
 use Rattle.box_tree.proofs.ContainingLemmas.{standing, label-seen, ancestors-seen, above-seen}
 use Rattle.spaces.specs.Values.{values_along, values_below, values}

@@ -3,7 +3,7 @@ use Rattle.std.proofs.Common.{◌≡◌, ℕ, ◌+◌, ◌<◌, ◌≤◌, List,
 use Rattle.std.specs.Prelude.{◌&&◌}
 use Rattle.std.specs.Option.{option_map_or, option_and_then}
 use Rattle.box_tree.specs.declared.node.Node.{Node}
-use Rattle.box_tree.specs.Forest.{Label, Forest, End, Grow, roots_of, Placed, placed_in}
+use Rattle.box_tree.specs.Forest.{Forest, End, Grow, roots_of, Placed, placed_in}
 use Rattle.box_tree.specs.Contents.{Contents, node_of, placed_of, has_id, ancestor_count, IsValid}
 use Rattle.box_tree.proofs.ForestLemmas.{placed_in-head}
 use Rattle.box_tree.proofs.PlacedLemmas.{trees_from, trees_from-all, depth-placed_in, IsChildAt}

@@ -1,5 +1,5 @@
 -- The bound on maps (own): no product on the way to a space may pass it.
-use Rattle.std.specs.Prelude.{ℕ, ◌^◌, List, [], ◌∷◌, Bool, true, ◌&&◌, nat_le, unsigned_abs, Some, None}
+use Rattle.std.specs.Prelude.{◌^◌, List, [], ◌∷◌, Bool, true, ◌&&◌, nat_le, unsigned_abs, Some, None}
 use Rattle.std.specs.List.{list_all}
 use Rattle.affine.specs.declared.map.Parts.{Parts}
 use Rattle.affine.specs.Map.{product}

@@ -8,7 +8,7 @@ use Rattle.box_tree.specs.Forest.{Label, Forest, End, Grow}
 use Rattle.box_tree.specs.Contents.{Contents, placed_of}
 use Rattle.box_tree.specs.Used.{used_position}
 use Rattle.box_tree.specs.Containing.{Standing, parent_of, outermost, containing_block_chain}
-use Rattle.spaces.specs.Spaces.{outer_space, own_factors, space_factors, standing_at}
+use Rattle.spaces.specs.Spaces.{outer_space, own_factors, inner_factors, space_factors, standing_at}
 use Rattle.spaces.specs.Bound.{is_within_bound}
 
 -- a map, where it is within the bound
@@ -45,6 +45,10 @@ are_checked viewport above (Grow n below others) =
 -- the same of the node of an id and of those below it
 abbrev pub is_checked_from : Contents → ℕ → Bool
 is_checked_from page id = option_map_or (λ p. are_checked page.viewport p.above (Grow p.label p.below End)) (placed_of page id) true
+
+-- the factors of the node of an id as a containing block
+abbrev pub inner_factors_of : Contents → ℕ → List Parts
+inner_factors_of page id = option_map_or (λ p. inner_factors (parent_of p.above) p.label) (placed_of page id) []
 
 -- the factors of the node of an id itself
 abbrev pub own_factors_of : Contents → ℕ → List Parts

@@ -12,6 +12,7 @@ pub record HasNumbersInRange (n : Label) : Type 0 where
   pub border : All (IsSide 20) n.style.border
   pub boxes : All IsBoxInRange n.boxes
   pub anchor : IsSpotInRange n.anchor
+  pub scroll : IsSpotInRange n.scroll
 
 -- a doubled origin is at most 2^28 in size
 pub record IsOriginInRange (origin : Spot) : Type 0 where

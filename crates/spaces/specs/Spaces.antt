@@ -1,6 +1,6 @@
 -- Where a node stands: its space is the product of maps along its containing blocks, from the viewport inward
 -- (CSS 2.2, 10.1; CSS Transforms 1, 3). A map is a matrix over one denominator, in lowest terms.
-use Rattle.std.specs.Prelude.{ℕ, List, [], ◌∷◌, ◌++◌, map, fold, Option, Some, None, if◌then◌else◌, slice_index_or, ℤ, pos, neg_ℤ, ◌+ℤ◌, ◌*ℤ◌}
+use Rattle.std.specs.Prelude.{ℕ, List, [], ◌∷◌, ◌++◌, map, fold, Option, Some, None, ◌&&◌, if◌then◌else◌, slice_index_or, ℤ, pos, neg_ℤ, ◌+ℤ◌, ◌*ℤ◌}
 use Rattle.std.specs.Option.{option_map, option_and_then}
 use Rattle.fractions.specs.declared.rect.Spot.{Spot}
 use Rattle.affine.specs.declared.map.Parts.{Parts}
@@ -13,7 +13,7 @@ use Rattle.box_tree.specs.declared.containing.Holder.{Holder}
 use Rattle.box_tree.specs.declared.containing.Holder.TheVariants.{Node as HolderNode, Initial, Viewport as HolderViewport}
 use Rattle.box_tree.specs.Forest.{Label, Placed}
 use Rattle.box_tree.specs.Contents.{Contents, placed_of}
-use Rattle.box_tree.specs.Used.{used_position, is_transformed}
+use Rattle.box_tree.specs.Used.{used_position, is_transformed, is_clipping, is_block_container}
 use Rattle.box_tree.specs.Containing.{Standing, parent_of, outermost, containing_block_chain}
 use Rattle.spaces.specs.declared.space.FinePoint.{FinePoint}
 
@@ -77,10 +77,22 @@ outer_space viewport Initial = scrolled viewport
 outer_space viewport HolderViewport = identity_map
 outer_space viewport (HolderNode id) = identity_map
 
--- the factors of a containing block for what it holds: its padding corner
+-- the factor of the scroll of a node (CSS Overflow 3, 2; CSSOM View, 4), with its parent before it, where it clips and is a
+-- block container: the translation by minus its scroll
+abbrev pub scroll_factor : Option Label → Label → List Parts
+scroll_factor parent n =
+    if is_clipping parent n && is_block_container parent n
+    then translation (neg_ℤ n.scroll.x) (neg_ℤ n.scroll.y) (pos 1) ∷ []
+    else []
+
+-- the factors of a node as a containing block for what it holds, with its parent before it: its padding corner, and its
+-- scroll
+abbrev pub inner_factors : Option Label → Label → List Parts
+inner_factors parent n = padding_corner n ++ scroll_factor parent n
+
 abbrev pub holder_factors : Option Standing → List Parts
 holder_factors None = []
-holder_factors (Some holder) = padding_corner holder.label
+holder_factors (Some holder) = inner_factors (parent_of holder.above) holder.label
 
 -- the factors of the space of a node after the space of its containing block: those of the containing block, where that
 -- is a node, and those of the node itself

@@ -1,15 +1,17 @@
 // Spaces, and none once a product on the way there passes the bound.
 ghost use Rattle.std.specs.Prelude.{◌≡◌, All, IsTrue, Some, map};
-ghost use Rattle.std.specs.Option.{option_map, option_copied};
+ghost use Rattle.std.specs.Option.{option_map, option_copied, option_to_list};
 ghost use Rattle.affine.specs.Function.{function_map};
 ghost use Rattle.computed_style.specs.Ranges.{IsFunctionInRange};
 ghost use Rattle.box_tree.specs.Contents.{has_id, node_of, IsValid};
 ghost use Rattle.box_tree.specs.Kept.{label_of};
-ghost use Rattle.spaces.specs.Spaces.{padding_corner, transform_around, doubled_origin, first_box, own_factors};
-ghost use Rattle.spaces.specs.Checked.{then_product, checked_products, checked_space, own_factors_of};
+ghost use Rattle.spaces.specs.Spaces.{inner_factors, transform_around, doubled_origin, first_box, own_factors};
+ghost use Rattle.spaces.specs.Checked.{then_product, checked_products, checked_space, inner_factors_of, own_factors_of};
 ghost use Rattle.spaces.specs.Sizes.{HasNumbersInRange, IsOriginInRange};
 
-use crate::factors::{doubled_origin, from_origin, moving_by, padding_corner, scrolled, to_origin};
+use crate::factors::{
+    doubled_origin, from_origin, moving_by, padding_corner, scroll_factor, scrolled, to_origin,
+};
 use affine::{Map, compose, identity, matrix};
 use box_tree::{Holder, Node, Page, is_transformed};
 use computed_style::{Function, Functions};
@@ -35,7 +37,7 @@ pub(crate) fn checked_space<L: Ledger>(
     match page.containing_block(id) {
         Holder::Node { id: holder } => {
             let outer = checked_space(page, holder, known_id, known, steps);
-            let around = inside(outer, page.node(holder, steps));
+            let around = inside(page, holder, outer, steps);
             own_space(page, id, around, steps)
         }
         Holder::Initial => own_space(page, id, Some(scrolled(&page.viewport())), steps),
@@ -43,13 +45,32 @@ pub(crate) fn checked_space<L: Ledger>(
     }
 }
 
-// From the space of a containing block to where it places: its padding corner, where it has a box.
-fn inside(outer: Option<Map>, holder: &Node) -> Option<Map>
-    requires { HasNumbersInRange (label_of holder.now) }
-    ensures { result ≡ checked_products outer (padding_corner (label_of holder.now)) }
+// From the space of the node of an id to where it places as a containing block.
+fn inside<L: Ledger>(page: &Page, id: u32, space: Option<Map>, steps: &mut Steps<L>) -> Option<Map>
+    requires valid { IsValid page.now.contents }
+    requires there { IsTrue (has_id page.now.contents id) }
+    ensures { result ≡ checked_products space (inner_factors_of page.now.contents id) }
 {
-    match padding_corner(holder) {
-        Some(corner) => product(outer, &corner),
+    let node = page.node(id, steps);
+    let parent = find(page, node.parent, steps);
+    inner(space, parent, node)
+}
+
+// The factors of a containing block after a map: its padding corner, where it has a box, and its scroll, where it clips.
+fn inner(space: Option<Map>, parent: Option<&Node>, node: &Node) -> Option<Map>
+    requires { HasNumbersInRange (label_of node.now) }
+    ensures { result ≡ checked_products space (inner_factors (option_map label_of (option_copied parent.entry)) (label_of node.now)) }
+{
+    let cornered = some_product(space, padding_corner(node));
+    some_product(cornered, scroll_factor(parent, node))
+}
+
+// One factor more, where there is one.
+fn some_product(outer: Option<Map>, factor: Option<Map>) -> Option<Map>
+    ensures { result ≡ checked_products outer (option_to_list factor) }
+{
+    match factor {
+        Some(factor) => product(outer, &factor),
         None => outer,
     }
 }

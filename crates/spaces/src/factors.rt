@@ -1,14 +1,14 @@
 // The maps of which spaces are products.
 ghost use Rattle.std.specs.Prelude.{◌≡◌, ◌≤◌, ◌^◌, pos, ◌+ℤ◌, ◌*ℤ◌, neg_ℤ, unsigned_abs};
-ghost use Rattle.std.specs.Option.{option_to_list};
+ghost use Rattle.std.specs.Option.{option_map, option_copied, option_to_list};
 ghost use Rattle.affine.specs.Map.{translation};
 ghost use Rattle.box_tree.specs.Contents.{IsWithin, IsSide, IsSpotInRange, IsBoxInRange};
 ghost use Rattle.box_tree.specs.Kept.{label_of};
-ghost use Rattle.spaces.specs.Spaces.{top_border, right_border, bottom_border, left_border, moving_by, scrolled, padding_corner, first_box, doubled_origin};
+ghost use Rattle.spaces.specs.Spaces.{top_border, right_border, bottom_border, left_border, moving_by, scrolled, padding_corner, scroll_factor, first_box, doubled_origin};
 ghost use Rattle.spaces.specs.Sizes.{HasNumbersInRange, IsOriginInRange};
 
 use affine::{Map, translate};
-use box_tree::{Node, Piece, Viewport};
+use box_tree::{Node, Piece, Viewport, is_block_container, is_clipping};
 use fractions::Spot;
 
 // The translation by a point.
@@ -24,7 +24,27 @@ pub(crate) fn scrolled(viewport: &Viewport) -> Map
     requires { IsSpotInRange viewport.now.scroll }
     ensures { result ≡ scrolled viewport.now }
 {
-    translate(-viewport.scroll.x, -viewport.scroll.y, 1)
+    back_by(viewport.scroll)
+}
+
+// The translation by minus a scroll.
+fn back_by(scroll: Spot) -> Map
+    requires { IsSpotInRange scroll }
+    ensures { result ≡ translation (neg_ℤ scroll.x) (neg_ℤ scroll.y) (pos 1) }
+{
+    translate(-scroll.x, -scroll.y, 1)
+}
+
+// The translation by minus the scroll of a node, where it clips and is a block container.
+pub(crate) fn scroll_factor(parent: Option<&Node>, node: &Node) -> Option<Map>
+    requires { HasNumbersInRange (label_of node.now) }
+    ensures { option_to_list result ≡ scroll_factor (option_map label_of (option_copied parent.entry)) (label_of node.now) }
+{
+    if is_clipping(parent, node) && is_block_container(parent, node) {
+        Some(back_by(node.scroll))
+    } else {
+        None
+    }
 }
 
 // The translation to the padding corner of a node, where it has a box: the corner of its first box, with the left and

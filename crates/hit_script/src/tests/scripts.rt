@@ -1,5 +1,5 @@
 // Scripts and the replies to them.
-use super::{THREE_BLOCKS, THREE_BLOCKS_REPLIES, assert_replies, maps, painting, values};
+use super::{THREE_BLOCKS, THREE_BLOCKS_REPLIES, assert_replies, maps, painting, scrolls, values};
 use std::test::Fail;
 
 const ROOT: &[u8] =
@@ -208,6 +208,16 @@ fn scripts_are_answered(rt: HostRuntime) -> Result<(), Fail> {
         (maps::SINGULAR, maps::SINGULAR_REPLIES),
         (maps::FIXED, maps::FIXED_REPLIES),
         (maps::DEEP_SCALES, maps::DEEP_SCALES_REPLIES),
+        (
+            scrolls::FIXED_IN_A_SCROLLED_VIEWPORT,
+            scrolls::FIXED_IN_A_SCROLLED_VIEWPORT_REPLIES,
+        ),
+        (scrolls::CLAMPED_VIEWPORT, scrolls::CLAMPED_VIEWPORT_REPLIES),
+        (
+            scrolls::SCROLLED_BEFORE_IT_CLIPS,
+            scrolls::SCROLLED_BEFORE_IT_CLIPS_REPLIES,
+        ),
+        (scrolls::REFUSED_SCROLLS, scrolls::REFUSED_SCROLLS_REPLIES),
         (maps::AT_THE_BOUND, maps::AT_THE_BOUND_REPLIES),
         (values::HIDDEN, values::HIDDEN_REPLIES),
         (values::NO_TARGETS, values::NO_TARGETS_REPLIES),

@@ -7,7 +7,7 @@ use Kind::{Block, Inline, Text};
 use Position::{Absolute, Fixed, Relative, Static};
 use affine::Parts;
 use box_tree::{Edit, Kind, Piece, PieceList};
-use computed_style::{Function, Functions, Position, Style};
+use computed_style::{Function, Functions, Overflow, Position, Style};
 use fractions::{Blank, Brand, Spot};
 use std::alloc::Global;
 use std::process::Abort;
@@ -117,6 +117,56 @@ fn bordered(rt: &impl Abort, alloc: Global) -> Result<Page, Fail> {
     Ok(page)
 }
 
+// Places a node anew by its box, with a greatest scroll of 40 units each way, and scrolls it.
+fn scroll(
+    rt: &impl Abort,
+    alloc: Global,
+    page: &mut Page,
+    id: u32,
+    sides: (i64, i64, i64, i64),
+    (x, y): (i64, i64),
+) -> Result<(), Fail> {
+    let edit = Edit::Place {
+        id,
+        anchor: Spot { x: 0, y: 0 },
+        boxes: box_at(alloc, Some(sides))?,
+        max: Spot { x: 40, y: 40 },
+    };
+    apply(rt, page, &edit)?;
+    apply(rt, page, &Edit::Scroll { id, x, y })
+}
+
+// A page whose nodes 1, 2, 5 and 7 are scrolled. Of these node 2 alone clips: node 1 is the root, the overflow of node 5 is
+// visible, and node 7 is no block container.
+fn scrolling(rt: &impl Abort, alloc: Global) -> Result<Page, Fail> {
+    let mut page = Page::new(alloc, 81_920, 46_080);
+    let sides = (5, 6, 50, 50);
+    for (parent, kind, position, overflow) in [
+        (0, Block, Static, Some(Overflow::Clip)),
+        (1, Block, Static, Some(Overflow::Auto)),
+        (2, Block, Static, None),
+        (2, Block, Absolute, None),
+        (1, Block, Static, Some(Overflow::Visible)),
+        (5, Block, Static, None),
+        (1, Inline, Relative, Some(Overflow::Clip)),
+        (7, Block, Absolute, None),
+    ] {
+        let mut style = placed(alloc, position, [2, 0, 0, 3]);
+        style.overflow = overflow;
+        let node = Added {
+            parent,
+            kind,
+            style,
+            sides: Some(sides),
+        };
+        add(rt, alloc, &mut page, node)?;
+    }
+    for id in [1, 2, 5, 7] {
+        scroll(rt, alloc, &mut page, id, sides, (10, 60))?;
+    }
+    Ok(page)
+}
+
 // A page of nodes in a root, some of them transformed.
 fn turned(rt: &impl Abort, alloc: Global) -> Result<Page, Fail> {
     let by_5 = Matrix {
@@ -212,6 +262,22 @@ fn spaces_begin_at_padding_corners(rt: HostRuntime) -> Result<(), Fail> {
         (8, by(106, 214), at(-5504, -11776)),
         (9, by(106, 214), at(-5504, -11776)),
         (10, by(108, 209), at(-5632, -11456)),
+    ];
+    compare::<Brand>(&rt, &page, &spaces, Blank::new(1));
+    Ok(())
+}
+
+#[test]
+fn what_a_node_holds_moves_back_by_its_scroll(rt: HostRuntime) -> Result<(), Fail> {
+    let page = scrolling(&rt, rt.alloc())?;
+    let spaces = [
+        (2, by(8, 8), at(768, 1408)),
+        (3, by(6, -24), at(896, 3456)),
+        (4, by(0, 0), at(1280, 1920)),
+        (5, by(8, 8), at(768, 1408)),
+        (6, by(16, 16), at(256, 896)),
+        (7, by(8, 8), at(768, 1408)),
+        (8, by(16, 16), at(256, 896)),
     ];
     compare::<Brand>(&rt, &page, &spaces, Blank::new(1));
     Ok(())

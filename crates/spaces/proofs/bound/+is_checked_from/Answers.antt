@@ -1,8 +1,7 @@
 -- The walk: the node itself, then a child with all below it, and then the other children.
-use Rattle.std.proofs.Common.{◌≡◌, ℕ, ◌+◌, ◌<◌, ◌≤◌, List, get_or, length, Bool, true, false, is_some, IsTrue, Some, None, subst, sym, ap, ◌∙◌, arith}
+use Rattle.std.proofs.Common.{◌≡◌, ℕ, ◌+◌, ◌<◌, ◌≤◌, List, get_or, length, true, false, is_some, subst, sym, ap, ◌∙◌, arith}
 use Rattle.std.specs.Prelude.{◌&&◌, not}
-use Rattle.box_tree.specs.Contents.{Contents}
-use Rattle.spaces.specs.Checked.{checked_space, is_checked_from}
+use Rattle.spaces.specs.Checked.{checked_space}
 use Rattle.spaces.proofs.WalkLemmas.{is_checked_below, checked_from-own, child-there, child-deeper, checked_below-step, checked_below-end, not_deepest, and-false}
 use Rattle.spaces.proofs.bound.+is_checked_from.Goals as goal
 

@@ -1,5 +1,5 @@
 -- All nodes are the root and those below it.
-use Rattle.std.proofs.Common.{◌≡◌, [], ◌∷◌, List, ℕ, Option, sym, ap, ◌∙◌}
+use Rattle.std.proofs.Common.{sym, ap, ◌∙◌}
 use Rattle.std.specs.Option.{option_to_list}
 use Rattle.spaces.proofs.SpaceLemmas.{spaceless}
 use Rattle.spaces.proofs.WalkLemmas.{root-there, checked_from-root, checked-rootless}

@@ -1,11 +1,10 @@
 -- The space of the containing block, where that is a node, its factors, and then those of the node itself.
-use Rattle.std.proofs.Common.{◌≡◌, Option, Some, sym, ap, ◌∙◌, arith}
+use Rattle.std.proofs.Common.{Option, Some, sym, ap, ◌∙◌, arith}
 use Rattle.affine.specs.declared.map.Parts.{Parts}
-use Rattle.box_tree.specs.declared.containing.Holder.TheVariants.{Node as HolderNode, Initial, Viewport as HolderViewport}
-use Rattle.box_tree.specs.Kept.{label_of}
-use Rattle.spaces.specs.Spaces.{padding_corner, scrolled}
-use Rattle.spaces.specs.Checked.{checked_products, own_factors_of}
-use Rattle.spaces.proofs.SpaceLemmas.{IsThere, is_there, space-held, space-unheld, holder-there, holder-nearer, numbers-seen}
+use Rattle.box_tree.specs.declared.containing.Holder.TheVariants.{Initial, Viewport as HolderViewport}
+use Rattle.spaces.specs.Spaces.{scrolled}
+use Rattle.spaces.specs.Checked.{checked_products, inner_factors_of, own_factors_of}
+use Rattle.spaces.proofs.SpaceLemmas.{is_there, space-held, space-unheld, holder-there, holder-nearer}
 use Rattle.spaces.proofs.checked.+checked_space.Goals as goal
 
 pub checked_space-outer-requires : goal.checked_space-outer-requires
@@ -16,14 +15,11 @@ checked_space-outer-requires g t c κs within =
     let nearer = holder-nearer page c.requires.valid c.args.id own.node own.seen c.in-Node.holder by in
     (omega (arith, nearer), (within, (c.requires.valid, (holder-there page c.requires.valid c.args.id own.node own.seen c.in-Node.holder by, c.requires.known))))
 
-pub node-requires : goal.node-requires
-node-requires g t c =
+pub inside-around-requires-clause-there : goal.inside-around-requires-clause-there
+inside-around-requires-clause-there g t c =
     let page = c.args.page.now.contents in
     let own = is_there page c.args.id c.requires.there in
     holder-there page c.requires.valid c.args.id own.node own.seen c.in-Node.holder (sym c.containing_block.ensures ∙ c.in-Node.is)
-
-pub inside-around-requires : goal.inside-around-requires
-inside-around-requires g t c = numbers-seen c.args.page.now.contents c.requires.valid c.in-Node.holder c.node.result.now c.node.ensures.node
 
 pub returns-in-Node : goal.returns-in-Node
 returns-in-Node g t c =
@@ -31,8 +27,8 @@ returns-in-Node g t c =
     let own = is_there page c.args.id c.requires.there in
     let by = sym c.containing_block.ensures ∙ c.in-Node.is in
     c.own_space.ensures
-    ∙ ap (λ (o : Option Parts). checked_products o (own_factors_of page c.args.id)) (c.inside-around.ensures ∙ ap (λ (o : Option Parts). checked_products o (padding_corner (label_of c.node.result.now))) c.checked_space-outer.ensures)
-    ∙ sym (space-held page c.requires.valid c.args.id own.node own.seen c.in-Node.holder c.node.result.now by c.node.ensures.node)
+    ∙ ap (λ (o : Option Parts). checked_products o (own_factors_of page c.args.id)) (c.inside-around.ensures ∙ ap (λ (o : Option Parts). checked_products o (inner_factors_of page c.in-Node.holder)) c.checked_space-outer.ensures)
+    ∙ sym (space-held page c.requires.valid c.args.id own.node own.seen c.in-Node.holder by)
 
 pub returns-in-Initial : goal.returns-in-Initial
 returns-in-Initial g t c =

@@ -1,5 +1,5 @@
 -- The factors of the transform where that counts, and else the anchor.
-use Rattle.std.proofs.Common.{◌≡◌, List, [], ◌∷◌, Bool, sym, ap, ◌∙◌}
+use Rattle.std.proofs.Common.{[], ◌∷◌, Bool, sym, ap, ◌∙◌}
 use Rattle.std.specs.Prelude.{if◌then◌else◌}
 use Rattle.fractions.specs.declared.rect.Spot.{Spot}
 use Rattle.affine.specs.declared.map.Parts.{Parts}

@@ -1,5 +1,5 @@
 -- One factor, the functions, and one factor more.
-use Rattle.std.proofs.Common.{◌≡◌, Option, List, sym, ap, ◌∙◌}
+use Rattle.std.proofs.Common.{Option, sym, ap, ◌∙◌}
 use Rattle.std.specs.Prelude.{map, pos, neg_ℤ, ◌+ℤ◌, ◌*ℤ◌}
 use Rattle.affine.specs.declared.map.Parts.{Parts}
 use Rattle.affine.specs.Map.{translation}

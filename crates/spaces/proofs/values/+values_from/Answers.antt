@@ -1,5 +1,5 @@
 -- The values of the parent, and one step of inheritance.
-use Rattle.std.proofs.Common.{◌≡◌, sym, ap, ◌∙◌, arith}
+use Rattle.std.proofs.Common.{sym, ap, ◌∙◌, arith}
 use Rattle.computed_style.specs.declared.inherited.Inherited.{Inherited}
 use Rattle.computed_style.specs.Inheritance.{computed}
 use Rattle.box_tree.proofs.ContainingLemmas.{ancestors-fewer}

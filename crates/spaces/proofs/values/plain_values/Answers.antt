@@ -1,5 +1,5 @@
 -- A text has the values of its parent, every other node its own.
-use Rattle.std.proofs.Common.{◌≡◌, Some, Bool, if◌then◌else◌, sym, ap, ◌∙◌}
+use Rattle.std.proofs.Common.{Some, Bool, if◌then◌else◌, sym, ap, ◌∙◌}
 use Rattle.computed_style.specs.declared.inherited.Inherited.{Inherited}
 use Rattle.box_tree.specs.Edited.{ancestors_below}
 use Rattle.spaces.specs.Values.{values_along}

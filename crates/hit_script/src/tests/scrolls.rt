@@ -1,0 +1,73 @@
+// Scrolled nodes and a scrolled viewport: scripts and their replies, worked out by hand.
+
+/// A fixed node stays where it is while the viewport scrolls, and the page goes up.
+pub const FIXED_IN_A_SCROLLED_VIEWPORT: &[u8] =
+    br#"{"op":"add","parent":0,"at":0,"kind":"block","boxes":[[0,0,0,100,100]],"style":{}}
+{"op":"add","parent":1,"at":0,"kind":"block","boxes":[[0,20,20,60,60]],"style":{}}
+{"op":"add","parent":2,"at":0,"kind":"block","boxes":[[0,0,0,60,60]],"style":{}}
+{"op":"add","parent":3,"at":0,"kind":"block","boxes":[[0,0,0,10,10]],"style":{"position":"fixed"}}
+{"op":"resize","w":100,"h":100,"max":[0,200]}
+{"op":"hit","x":25,"y":60}
+{"op":"scrollview","x":0,"y":50}
+{"op":"hit","x":5,"y":5}
+{"op":"hit","x":5,"y":60}
+{"op":"hit","x":25,"y":29}
+"#;
+
+pub const FIXED_IN_A_SCROLLED_VIEWPORT_REPLIES: &[u8] =
+    b"node 1\nnode 2\nnode 3\nnode 4\nok\nhit 3 2 1\nok\nhit 4 1\nhit 1\nhit 3 2 1\n";
+
+/// The scroll of the viewport is clamped between 0 and the greatest one, each coordinate by itself, also to a new greatest
+/// one.
+pub const CLAMPED_VIEWPORT: &[u8] =
+    br#"{"op":"add","parent":0,"at":0,"kind":"block","boxes":[[0,0,0,100,100]],"style":{}}
+{"op":"add","parent":1,"at":0,"kind":"block","boxes":[[0,20,20,20,20]],"style":{}}
+{"op":"scrollview","x":10,"y":0}
+{"op":"hit","x":39,"y":20}
+{"op":"resize","w":100,"h":100,"max":[10,0]}
+{"op":"scrollview","x":999,"y":-5}
+{"op":"hit","x":9,"y":20}
+{"op":"hit","x":10,"y":20}
+{"op":"hit","x":30,"y":20}
+{"op":"resize","w":100,"h":100,"max":[4,7]}
+{"op":"hit","x":15,"y":20}
+{"op":"hit","x":16,"y":20}
+{"op":"hit","x":16,"y":19}
+"#;
+
+pub const CLAMPED_VIEWPORT_REPLIES: &[u8] =
+    b"node 1\nnode 2\nok\nhit 2 1\nok\nok\nhit 1\nhit 2 1\nhit 1\nok\nhit 1\nhit 2 1\nhit 1\n";
+
+/// A scroll of a node that doesn't clip is kept, and acts once the node clips; a place clamps it to its greatest one.
+pub const SCROLLED_BEFORE_IT_CLIPS: &[u8] =
+    br#"{"op":"add","parent":0,"at":0,"kind":"block","boxes":[[0,0,0,100,100]],"style":{}}
+{"op":"add","parent":1,"at":0,"kind":"block","boxes":[[0,0,0,40,40]],"style":{}}
+{"op":"add","parent":2,"at":0,"kind":"block","boxes":[[0,0,0,40,40]],"style":{}}
+{"op":"place","id":2,"anchor":[0,0],"boxes":[[0,0,0,40,40]],"max":[0,30]}
+{"op":"scroll","id":2,"x":0,"y":20}
+{"op":"hit","x":5,"y":30}
+{"op":"style","id":2,"style":{"overflow":"auto"}}
+{"op":"hit","x":5,"y":19}
+{"op":"hit","x":5,"y":20}
+{"op":"place","id":2,"anchor":[0,0],"boxes":[[0,0,0,40,40]],"max":[0,15]}
+{"op":"hit","x":5,"y":24}
+{"op":"hit","x":5,"y":25}
+{"op":"style","id":2,"style":{"overflow":"visible"}}
+{"op":"hit","x":5,"y":25}
+"#;
+
+pub const SCROLLED_BEFORE_IT_CLIPS_REPLIES: &[u8] =
+    b"node 1\nnode 2\nnode 3\nok\nok\nhit 3 2 1\nok\nhit 3 2 1\nhit 2 1\nok\nhit 3 2 1\nhit 2 1\nok\nhit 3 2 1\n";
+
+/// A scroll of no node, and of an image, which takes none; the root takes one.
+pub const REFUSED_SCROLLS: &[u8] =
+    br#"{"op":"add","parent":0,"at":0,"kind":"block","boxes":[[0,0,0,100,100]],"style":{}}
+{"op":"add","parent":1,"at":0,"kind":"image","boxes":[[0,0,0,10,10]],"style":{}}
+{"op":"scroll","id":3,"x":0,"y":0}
+{"op":"scroll","id":2,"x":0,"y":0}
+{"op":"scroll","id":1,"x":0,"y":0}
+{"op":"scroll","id":1,"x":0}
+"#;
+
+pub const REFUSED_SCROLLS_REPLIES: &[u8] =
+    b"node 1\nnode 2\nerr 4 absent\nerr 6 kind\nok\nerr 3 command\n";
