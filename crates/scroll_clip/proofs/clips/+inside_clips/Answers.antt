@@ -1,5 +1,5 @@
 -- The clip of the containing block, where that is a node, and then the clips of that node.
-use Rattle.std.proofs.Common.{◌≡◌, Option, Bool, true, false, inl, inr, sym, ap, ◌∙◌, arith}
+use Rattle.std.proofs.Common.{◌≡◌, Option, Bool, true, false, inl, inr, rules, sym, ap, ◌∙◌, arith}
 use Rattle.std.specs.Prelude.{◌&&◌}
 use Rattle.std.proofs.lemmas.Int.{ints}
 use mir.Syntax.{w64}
@@ -17,13 +17,15 @@ pub clip_of-clip-requires-clause-there : goal.clip_of-clip-requires-clause-there
 clip_of-clip-requires-clause-there g t c =
     let page = c.args.page.now.contents in
     let own = is_there page c.args.id c.requires.there in
-    holder-there page c.validity.ensures c.args.id own.node own.seen c.in-Node.holder (sym c.containing_block-by.ensures ∙ c.in-Node.is)
+    let held = holder-there page c.validity.ensures c.args.id own.node own.seen c.in-Node.holder (sym c.containing_block-by.ensures ∙ c.in-Node.is) in
+    search rules
 
 pub clip_lets_in-requires-clause-there : goal.clip_lets_in-requires-clause-there
 clip_lets_in-requires-clause-there g t c =
     let page = c.args.page.now.contents in
     let own = is_there page c.args.id c.requires.there in
-    holder-there page c.validity.ensures c.args.id own.node own.seen c.in-Node.holder (sym c.containing_block-by.ensures ∙ c.in-Node.is)
+    let held = holder-there page c.validity.ensures c.args.id own.node own.seen c.in-Node.holder (sym c.containing_block-by.ensures ∙ c.in-Node.is) in
+    search rules
 
 pub inside_clips-requires : goal.inside_clips-requires
 inside_clips-requires g t c κs within =
