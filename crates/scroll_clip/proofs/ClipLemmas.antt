@@ -11,7 +11,7 @@ use Rattle.box_tree.specs.declared.containing.Holder.{Holder}
 use Rattle.box_tree.specs.declared.containing.Holder.TheVariants.{Node as HolderNode}
 use Rattle.box_tree.specs.Forest.{Label, Placed}
 use Rattle.box_tree.specs.Contents.{Contents, node_of, placed_of, IsValid, IsSuited}
-use Rattle.box_tree.specs.Used.{cuts_off, has_box, is_block_container, is_clipping}
+use Rattle.box_tree.specs.Used.{has_box, is_clipping}
 use Rattle.box_tree.specs.Containing.{Standing, parent_of, containing_block, containing_block_chain, clips}
 use Rattle.box_tree.specs.Kept.{label_of}
 use Rattle.box_tree.proofs.MoveLemmas.{each-placed}
@@ -36,7 +36,7 @@ first-of false b is = absurd (false≢true is)
 
 curve-there : (parent : Option Label) (n : Label) → is_clipping parent n ≡ true → is_some (clipping_curve n) ≡ false → ⊥
 curve-there None n is none = false≢true is
-curve-there (Some parent) n is none = curve-at n n.boxes (first-of (has_box n) (is_block_container (Some parent) n) (second-of (cuts_off n.style.overflow) (has_box n && is_block_container (Some parent) n) is)) none
+curve-there (Some parent) n is none = curve-at n n.boxes (first-of (has_box n) _ (second-of _ _ is)) none
 
 -- whether the clip of a containing block holds a point of the viewport
 abbrev clip_of_holds : Contents → ℤ → ℤ → Standing → Bool

@@ -52,7 +52,8 @@ pub fn inside_clips<L: Ledger>(page: &Page, id: u32, x: i64, y: i64, steps: &mut
     ensures { result ≡ inside_clips page.now.contents id x y }
 {
     page.validity();
-    match page.containing_block(id) {
+    let by = page.containing_block(id);
+    match by {
         Holder::Node { id: holder } => {
             let clip = clip_of(page, holder, steps);
             clip_lets_in(page, clip, holder, x, y, steps) && inside_clips(page, holder, x, y, steps)

@@ -12,3 +12,6 @@ mod curves;
 
 pub use clips::{clip_rounded, inside_clips};
 pub use curves::{border_curve, padding_curve};
+
+#[cfg(test)]
+mod tests;

@@ -1,5 +1,5 @@
 -- The clip of the containing block, where that is a node, and then the clips of that node.
-use Rattle.std.proofs.Common.{◌≡◌, Option, Bool, true, false, inl, inr, sym, ap, ◌∙◌, arith}
+use Rattle.std.proofs.Common.{◌≡◌, Option, Bool, true, false, inl, inr, rules, sym, ap, ◌∙◌, arith}
 use Rattle.std.specs.Prelude.{◌&&◌}
 use Rattle.std.proofs.lemmas.Int.{ints}
 use mir.Syntax.{w64}
@@ -17,19 +17,21 @@ pub clip_of-clip-requires-clause-there : goal.clip_of-clip-requires-clause-there
 clip_of-clip-requires-clause-there g t c =
     let page = c.args.page.now.contents in
     let own = is_there page c.args.id c.requires.there in
-    holder-there page c.validity.ensures c.args.id own.node own.seen c.in-Node.holder (sym c.containing_block.ensures ∙ c.in-Node.is)
+    let held = holder-there page c.validity.ensures c.args.id own.node own.seen c.in-Node.holder (sym c.containing_block-by.ensures ∙ c.in-Node.is) in
+    search rules
 
 pub clip_lets_in-requires-clause-there : goal.clip_lets_in-requires-clause-there
 clip_lets_in-requires-clause-there g t c =
     let page = c.args.page.now.contents in
     let own = is_there page c.args.id c.requires.there in
-    holder-there page c.validity.ensures c.args.id own.node own.seen c.in-Node.holder (sym c.containing_block.ensures ∙ c.in-Node.is)
+    let held = holder-there page c.validity.ensures c.args.id own.node own.seen c.in-Node.holder (sym c.containing_block-by.ensures ∙ c.in-Node.is) in
+    search rules
 
 pub inside_clips-requires : goal.inside_clips-requires
 inside_clips-requires g t c κs within =
     let page = c.args.page.now.contents in
     let own = is_there page c.args.id c.requires.there in
-    let by = sym c.containing_block.ensures ∙ c.in-Node.is in
+    let by = sym c.containing_block-by.ensures ∙ c.in-Node.is in
     let nearer = holder-nearer page c.validity.ensures c.args.id own.node own.seen c.in-Node.holder by in
     let x_range : IsWithin 20 (to_z w64 (of_z w64 c.args.x)) = (omega (arith, ints, c.requires.x.0, c.requires.x.1), omega (arith, ints, c.requires.x.0, c.requires.x.1)) in
     let y_range : IsWithin 20 (to_z w64 (of_z w64 c.args.y)) = (omega (arith, ints, c.requires.y.0, c.requires.y.1), omega (arith, ints, c.requires.y.0, c.requires.y.1)) in
@@ -40,7 +42,7 @@ returns-then-clip_lets_in g t c =
     let page = c.args.page.now.contents in
     let own = is_there page c.args.id c.requires.there in
     let holder = c.in-Node.holder in
-    let by = sym c.containing_block.ensures ∙ c.in-Node.is in
+    let by = sym c.containing_block-by.ensures ∙ c.in-Node.is in
     let x_is : to_z w64 (of_z w64 c.args.x) ≡ c.args.x = omega (arith, ints) in
     let y_is : to_z w64 (of_z w64 c.args.y) ≡ c.args.y = omega (arith, ints) in
     let lets_in = rw (x_is, y_is) at c.clip_lets_in.ensures in
@@ -56,7 +58,7 @@ returns-else-clip_lets_in g t c =
     let page = c.args.page.now.contents in
     let own = is_there page c.args.id c.requires.there in
     let holder = c.in-Node.holder in
-    let by = sym c.containing_block.ensures ∙ c.in-Node.is in
+    let by = sym c.containing_block-by.ensures ∙ c.in-Node.is in
     let x_is : to_z w64 (of_z w64 c.args.x) ≡ c.args.x = omega (arith, ints) in
     let y_is : to_z w64 (of_z w64 c.args.y) ≡ c.args.y = omega (arith, ints) in
     let lets_in = rw (x_is, y_is) at c.clip_lets_in.ensures in
@@ -72,6 +74,6 @@ returns-in-Initial g t c =
     let own = is_there page c.args.id c.requires.there in
     let outside = inside-unheld page c.validity.ensures c.args.id own.node own.seen c.args.x c.args.y in
     elim c.in-Initial.is [
-      | inl is ↦ sym (outside Initial (sym c.containing_block.ensures ∙ is) (λ holder same. cc))
-      | inr is ↦ sym (outside HolderViewport (sym c.containing_block.ensures ∙ is) (λ holder same. cc))
+      | inl is ↦ sym (outside Initial (sym c.containing_block-by.ensures ∙ is) (λ holder same. cc))
+      | inr is ↦ sym (outside HolderViewport (sym c.containing_block-by.ensures ∙ is) (λ holder same. cc))
     ]
