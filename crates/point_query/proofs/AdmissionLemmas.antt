@@ -13,11 +13,12 @@ use Rattle.spaces.specs.declared.space.FinePoint.{FinePoint}
 use Rattle.spaces.specs.Spaces.{local_point}
 use Rattle.spaces.specs.Values.{values_below, values}
 use Rattle.scroll_clip.specs.Clips.{inside_clips}
+use Rattle.point_query.specs.ImageMaps.{area_under}
 use Rattle.point_query.specs.Elements.{element_as, element_of, part_admits, row_holds, admits, elements_of}
 
 -- an item of no node is not admitted
 pub elements_of-absent : (page : Contents) (x y : ℤ) (item : Item) → has_id page item.node ≡ false → elements_of page x y (item ∷ []) ≡ []
-elements_of-absent page x y item absent = ap (λ b. map (element_of page) (cond (b && inside_clips page item.node x y) (item ∷ []) [])) (by_place (placed_of page item.node) absent)
+elements_of-absent page x y item absent = ap (λ b. map (element_of page x y) (cond (b && inside_clips page item.node x y) (item ∷ []) [])) (by_place (placed_of page item.node) absent)
   where
     by_place : (o : Option Placed) → is_some o ≡ false → option_map_or (λ p. option_map_or (λ at. part_admits p.label (values_below p.above p.label) at item.part) (local_point page item.node x y) false) o false ≡ false
     by_place None is = refl
@@ -27,9 +28,9 @@ elements_of-absent page x y item absent = ap (λ b. map (element_of page) (cond 
 -- gives the element of its node
 pub elements_of-seen : (page : Contents) (x y : ℤ) (item : Item) (node : Node) (at : Option FinePoint) (inherited : Inherited) →
     node_of page item.node ≡ Some node → local_point page item.node x y ≡ at → values page item.node ≡ Some inherited →
-    elements_of page x y (item ∷ []) ≡ (if option_map_or (λ a. part_admits (label_of node) inherited a item.part) at false && inside_clips page item.node x y then element_as node.kind node.parent node.id ∷ [] else [])
+    elements_of page x y (item ∷ []) ≡ (if option_map_or (λ a. part_admits (label_of node) inherited a item.part) at false && inside_clips page item.node x y then element_as node.kind node.parent node.id (area_under page (label_of node) at) ∷ [] else [])
 elements_of-seen page x y item node at inherited seen at_is values_are =
-    ap (λ b. map (element_of page) (cond b (item ∷ []) [])) admitted ∙ by_test (option_map_or (λ a. part_admits (label_of node) inherited a item.part) at false && inside_clips page item.node x y)
+    ap (λ b. map (element_of page x y) (cond b (item ∷ []) [])) admitted ∙ by_test (option_map_or (λ a. part_admits (label_of node) inherited a item.part) at false && inside_clips page item.node x y)
   where
     place_is : IsSeenAt page item.node node
     place_is = seen_at page item.node node seen
@@ -50,11 +51,12 @@ elements_of-seen page x y item node at inherited seen at_is values_are =
     admitted : admits page x y item ≡ (option_map_or (λ a. part_admits (label_of node) inherited a item.part) at false && inside_clips page item.node x y)
     admitted = ap (λ (b : Bool). b && inside_clips page item.node x y) row
 
-    element_is : element_of page item ≡ element_as node.kind node.parent node.id
+    element_is : element_of page x y item ≡ element_as node.kind node.parent node.id (area_under page (label_of node) at)
     element_is =
-        ap (λ (o : Option Placed). option_map_or (λ p. element_as p.label.kind (parent_id p.above) p.label.id) o item.node) place_is.found
-        ∙ ap (λ (n : Node). element_as n.kind n.parent n.id) place_is.node_is
+        ap (λ (o : Option Placed). option_map_or (λ p. element_as p.label.kind (parent_id p.above) p.label.id (area_under page p.label (local_point page item.node x y))) o item.node) place_is.found
+        ∙ ap (λ (o : Option FinePoint). element_as place_is.place.label.kind (parent_id place_is.place.above) place_is.place.label.id (area_under page place_is.place.label o)) at_is
+        ∙ ap (λ (n : Node). element_as n.kind n.parent n.id (area_under page (label_of n) at)) place_is.node_is
 
-    by_test : (held : Bool) → map (element_of page) (cond held (item ∷ []) []) ≡ (if held then element_as node.kind node.parent node.id ∷ [] else [])
+    by_test : (held : Bool) → map (element_of page x y) (cond held (item ∷ []) []) ≡ (if held then element_as node.kind node.parent node.id (area_under page (label_of node) at) ∷ [] else [])
     by_test true = ap (λ (e : ℕ). e ∷ []) element_is
     by_test false = refl

@@ -44,7 +44,7 @@ take-more ids k within = rw (add-one k) (take-suc ids k 0 within)
 pub elements_of-cons : (page : Contents) (x y : ℤ) (item : Item) (items : List Item) → elements_of page x y (item ∷ items) ≡ elements_of page x y (item ∷ []) ++ elements_of page x y items
 elements_of-cons page x y item items = by_test (admits page x y item)
   where
-    by_test : (kept : Bool) → map (element_of page) (cond kept (item ∷ filter (admits page x y) items) (filter (admits page x y) items)) ≡ map (element_of page) (cond kept (item ∷ []) []) ++ map (element_of page) (filter (admits page x y) items)
+    by_test : (kept : Bool) → map (element_of page x y) (cond kept (item ∷ filter (admits page x y) items) (filter (admits page x y) items)) ≡ map (element_of page x y) (cond kept (item ∷ []) []) ++ map (element_of page x y) (filter (admits page x y) items)
     by_test true = refl
     by_test false = refl
 

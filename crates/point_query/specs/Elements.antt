@@ -1,5 +1,5 @@
 -- Which elements lie under a point of the viewport (CSSOM View, `elementsFromPoint`).
-use Rattle.std.specs.Prelude.{ℕ, ◌-◌, length, slice_get, List, [], ◌∷◌, ◌++◌, map, reverse, Option, Bool, false, not, ◌&&◌, if◌then◌else◌, ◌==◌, ℤ, pos, int_le}
+use Rattle.std.specs.Prelude.{ℕ, ◌-◌, length, slice_get, List, [], ◌∷◌, ◌++◌, map, reverse, Option, Bool, false, not, ◌&&◌, if◌then◌else◌, unwrap_or, ◌==◌, ℤ, pos, int_le}
 use Rattle.std.specs.Option.{option_map_or}
 use Rattle.std.specs.List.{filter}
 use Rattle.computed_style.specs.declared.inherited.Inherited.{Inherited}
@@ -18,6 +18,7 @@ use Rattle.spaces.specs.Spaces.{local_point}
 use Rattle.spaces.specs.Values.{values_below}
 use Rattle.scroll_clip.specs.Curves.{border_curve, padding_curve}
 use Rattle.scroll_clip.specs.Clips.{inside_clips}
+use Rattle.point_query.specs.ImageMaps.{area_under}
 use Rattle.stacking.specs.Painting.{layer}
 use Rattle.stacking.specs.OnPage.{of_node}
 
@@ -41,23 +42,29 @@ row_holds page x y item =
 abbrev pub admits : Contents → ℤ → ℤ → Item → Bool
 admits page x y item = row_holds page x y item && inside_clips page item.node x y
 
--- the element of a node of this kind, by the ids of its parent and of itself: a text has that of its parent
-abbrev pub element_as : Kind → (parent own : ℕ) → ℕ
-element_as Block parent own = own
-element_as Inline parent own = own
-element_as InlineBlock parent own = own
-element_as Image parent own = own
-element_as Svg parent own = own
-element_as Text parent own = parent
-element_as Map parent own = own
-element_as Area parent own = own
-element_as Group parent own = own
-element_as Shape parent own = own
-element_as Inner parent own = own
+-- the element of a node of this kind, by the ids of its parent and of itself, and of an area in its place, where there is
+-- one: a text has that of its parent, and an image gives way to the area
+abbrev pub element_as : Kind → (parent own : ℕ) → (area : Option ℕ) → ℕ
+element_as Block parent own area = own
+element_as Inline parent own area = own
+element_as InlineBlock parent own area = own
+element_as Image parent own area = unwrap_or area own
+element_as Svg parent own area = own
+element_as Text parent own area = parent
+element_as Map parent own area = own
+element_as Area parent own area = own
+element_as Group parent own area = own
+element_as Shape parent own area = own
+element_as Inner parent own area = own
 
--- the element of an item: its node, and for the box of a text the parent of that
-abbrev pub element_of : Contents → Item → ℕ
-element_of page item = option_map_or (λ p. element_as p.label.kind (parent_id p.above) p.label.id) (placed_of page item.node) item.node
+-- the element of an item at a point of the viewport: its node; for the box of a text the parent of that; and for an item of
+-- an image the area in its place at the local point
+abbrev pub element_of : Contents → ℤ → ℤ → Item → ℕ
+element_of page x y item =
+    option_map_or
+    (λ p. element_as p.label.kind (parent_id p.above) p.label.id (area_under page p.label (local_point page item.node x y)))
+    (placed_of page item.node)
+    item.node
 
 -- each element at its first place only
 abbrev pub each_once : List ℕ → List ℕ
@@ -78,7 +85,7 @@ is_inside viewport x y = (int_le (pos 0) x && int_le x viewport.w) && (int_le (p
 
 -- the elements of those of some items that are admitted at a point, in their order
 abbrev pub elements_of : Contents → ℤ → ℤ → List Item → List ℕ
-elements_of page x y items = map (element_of page) (filter (admits page x y) items)
+elements_of page x y items = map (element_of page x y) (filter (admits page x y) items)
 
 -- the elements from the point, from top to bottom, where these ids are the root's or none
 abbrev pub elements_with : Contents → ℤ → ℤ → List ℕ → List ℕ

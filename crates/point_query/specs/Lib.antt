@@ -1,2 +1,3 @@
+pub mod ImageMaps
 pub mod Chain
 pub mod Elements

@@ -6,9 +6,10 @@ ghost use Rattle.box_tree.specs.Contents.{IsWithin};
 ghost use Rattle.box_tree.specs.Kept.{label_of};
 ghost use Rattle.spaces.specs.Bound.{is_bounded};
 ghost use Rattle.scroll_clip.specs.Curves.{border_curve, padding_curve, HasCurvesInRange};
-ghost use Rattle.point_query.specs.Elements.{elements_of, element_as, part_admits};
+ghost use Rattle.point_query.specs.Elements.{elements_of, part_admits};
 
-use box_tree::{Item, Kind, Node, Page, Part};
+use crate::image_maps::element_of;
+use box_tree::{Item, Node, Page, Part};
 use computed_style::{Inherited, admits_box};
 use fractions::{Ledger, Steps};
 use scroll_clip::{border_curve, inside_clips, padding_curve};
@@ -40,26 +41,7 @@ pub(crate) fn admitted_element<L: Ledger>(
     if !inside_clips(page, item.node, x, y, steps) {
         return None;
     }
-    Some(element_of(node))
-}
-
-// The element of an item of a node: the node, and for a text its parent.
-fn element_of(node: &Node) -> u32
-    ensures { result ≡ element_as node.now.kind node.now.parent node.now.id }
-{
-    match node.kind {
-        Kind::Text => node.parent,
-        Kind::Block
-        | Kind::Inline
-        | Kind::InlineBlock
-        | Kind::Image
-        | Kind::Svg
-        | Kind::Map
-        | Kind::Area
-        | Kind::Group
-        | Kind::Shape
-        | Kind::Inner => node.id,
-    }
+    Some(element_of(page, node, at, steps))
 }
 
 // Whether a part of a node is admitted at its local point, where it has one.

@@ -9,6 +9,7 @@
 mod admission;
 mod chains;
 mod elements;
+mod image_maps;
 
 pub use chains::chain;
 pub use elements::{hit, top};

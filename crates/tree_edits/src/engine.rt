@@ -111,6 +111,7 @@ fn is_bounded_after(page: &Page, edit: &Edit, added: u32) -> bool
         Edit::Move { id, .. } => is_bounded_from(page, *id),
         Edit::Place { id, .. } => is_bounded_from(page, *id),
         Edit::Restyle { id, .. } => is_bounded_from(page, *id),
+        Edit::Reshape { id, .. } => is_bounded_from(page, *id),
         Edit::Scroll { id, .. } => is_bounded_from(page, *id),
         Edit::Resize { .. } | Edit::ScrollView { .. } => within(page),
     }

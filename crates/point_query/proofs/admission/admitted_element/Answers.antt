@@ -6,12 +6,17 @@ use mir.Syntax.{w64}
 use mir.Val.{to_z, of_z}
 use Rattle.scroll_clip.proofs.ClipLemmas.{curves-seen}
 use Rattle.scroll_clip.specs.Clips.{inside_clips}
+use Rattle.box_tree.specs.Kept.{label_of}
 use Rattle.point_query.specs.Elements.{element_as}
+use Rattle.point_query.specs.ImageMaps.{area_under}
 use Rattle.point_query.proofs.AdmissionLemmas.{elements_of-seen}
 use Rattle.point_query.proofs.admission.admitted_element.Goals as goal
 
 pub admits_at-requires : goal.admits_at-requires
 admits_at-requires g c = curves-seen c.args.page.now.contents c.validity.ensures c.args.item.node c.node-node.result.now c.node-node.ensures.node
+
+pub element_of-requires : goal.element_of-requires
+element_of-requires g c = curves-seen c.args.page.now.contents c.validity.ensures c.args.item.node c.node-node.result.now c.node-node.ensures.node
 
 pub returns-then-not-admits_at : goal.returns-then-not-admits_at
 returns-then-not-admits_at g c =
@@ -20,7 +25,7 @@ returns-then-not-admits_at g c =
     let y_is : to_z w64 (of_z w64 c.args.y) ≡ c.args.y = omega (arith, ints) in
     let at_is = rw (x_is, y_is) at c.local_point-at.ensures in
     sym (elements_of-seen c.args.page.now.contents c.args.x c.args.y c.args.item node c.local_point-at.result c.plain_values-values.result c.node-node.ensures.node (sym at_is) c.plain_values-values.ensures
-    ∙ ap (λ (held : Bool). if held && inside_clips c.args.page.now.contents c.args.item.node c.args.x c.args.y then element_as node.kind node.parent node.id ∷ [] else []) (sym c.admits_at.ensures ∙ c.if-not-admits_at.true))
+    ∙ ap (λ (held : Bool). if held && inside_clips c.args.page.now.contents c.args.item.node c.args.x c.args.y then element_as node.kind node.parent node.id (area_under c.args.page.now.contents (label_of node) c.local_point-at.result) ∷ [] else []) (sym c.admits_at.ensures ∙ c.if-not-admits_at.true))
 
 pub returns-then-not-inside_clips : goal.returns-then-not-inside_clips
 returns-then-not-inside_clips g c =
@@ -30,8 +35,8 @@ returns-then-not-inside_clips g c =
     let at_is = rw (x_is, y_is) at c.local_point-at.ensures in
     let inside = rw (x_is, y_is) at c.inside_clips.ensures in
     sym (elements_of-seen c.args.page.now.contents c.args.x c.args.y c.args.item node c.local_point-at.result c.plain_values-values.result c.node-node.ensures.node (sym at_is) c.plain_values-values.ensures
-    ∙ ap (λ (held : Bool). if held && inside_clips c.args.page.now.contents c.args.item.node c.args.x c.args.y then element_as node.kind node.parent node.id ∷ [] else []) (sym c.admits_at.ensures ∙ c.if-not-admits_at.false)
-    ∙ ap (λ (held : Bool). if held then element_as node.kind node.parent node.id ∷ [] else []) (sym inside ∙ c.if-not-inside_clips.true))
+    ∙ ap (λ (held : Bool). if held && inside_clips c.args.page.now.contents c.args.item.node c.args.x c.args.y then element_as node.kind node.parent node.id (area_under c.args.page.now.contents (label_of node) c.local_point-at.result) ∷ [] else []) (sym c.admits_at.ensures ∙ c.if-not-admits_at.false)
+    ∙ ap (λ (held : Bool). if held then element_as node.kind node.parent node.id (area_under c.args.page.now.contents (label_of node) c.local_point-at.result) ∷ [] else []) (sym inside ∙ c.if-not-inside_clips.true))
 
 pub returns : goal.returns
 returns g c =
@@ -41,6 +46,6 @@ returns g c =
     let at_is = rw (x_is, y_is) at c.local_point-at.ensures in
     let inside = rw (x_is, y_is) at c.inside_clips.ensures in
     sym (elements_of-seen c.args.page.now.contents c.args.x c.args.y c.args.item node c.local_point-at.result c.plain_values-values.result c.node-node.ensures.node (sym at_is) c.plain_values-values.ensures
-    ∙ ap (λ (held : Bool). if held && inside_clips c.args.page.now.contents c.args.item.node c.args.x c.args.y then element_as node.kind node.parent node.id ∷ [] else []) (sym c.admits_at.ensures ∙ c.if-not-admits_at.false)
-    ∙ ap (λ (held : Bool). if held then element_as node.kind node.parent node.id ∷ [] else []) (sym inside ∙ c.if-not-inside_clips.false)
+    ∙ ap (λ (held : Bool). if held && inside_clips c.args.page.now.contents c.args.item.node c.args.x c.args.y then element_as node.kind node.parent node.id (area_under c.args.page.now.contents (label_of node) c.local_point-at.result) ∷ [] else []) (sym c.admits_at.ensures ∙ c.if-not-admits_at.false)
+    ∙ ap (λ (held : Bool). if held then element_as node.kind node.parent node.id (area_under c.args.page.now.contents (label_of node) c.local_point-at.result) ∷ [] else []) (sym inside ∙ c.if-not-inside_clips.false)
     ∙ ap (λ (element : ℕ). element ∷ []) (sym c.element_of.ensures))

@@ -1,6 +1,6 @@
 -- Edit by edit, from the page before.
 use Rattle.std.proofs.Common.{refl, sym, ap, subst, ◌∙◌, ◌≡◌}
-use Rattle.box_tree.specs.Edited.{edited, laid_out, restyled, scrolled_node}
+use Rattle.box_tree.specs.Edited.{edited, laid_out, restyled, reshaped, scrolled_node}
 use Rattle.spaces.specs.Bound.{is_bounded}
 use Rattle.tree_edits.specs.Near.{is_bounded_from}
 use Rattle.tree_edits.proofs.BoundLemmas.{bounded-add, bounded-move, bounded-change, bounded-remove}
@@ -27,6 +27,11 @@ pub returns-in-Restyle : goal.returns-in-Restyle
 returns-in-Restyle c before valid bounded is added =
     c.is_bounded_from-in-Restyle.ensures
     ∙ bounded-change before c.args.page.now.contents valid c.validity.ensures bounded c.in-Restyle.id (restyled c.in-Restyle.style) (λ n. refl) (is ∙ ap (edited before) c.in-Restyle.is)
+
+pub returns-in-Reshape : goal.returns-in-Reshape
+returns-in-Reshape c before valid bounded is added =
+    c.is_bounded_from-in-Reshape.ensures
+    ∙ bounded-change before c.args.page.now.contents valid c.validity.ensures bounded c.in-Reshape.id (reshaped c.in-Reshape.form) (λ n. refl) (is ∙ ap (edited before) c.in-Reshape.is)
 
 pub returns-in-Scroll : goal.returns-in-Scroll
 returns-in-Scroll c before valid bounded is added =
