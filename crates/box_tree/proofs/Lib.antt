@@ -12,6 +12,7 @@ pub mod TakenLemmas
 pub mod TotalLemmas
 pub mod SuitsLemmas
 pub mod CountLemmas
+pub mod CoverLemmas
 pub mod RemoveLemmas
 pub mod MoveLemmas
 pub mod PlaceLemmas

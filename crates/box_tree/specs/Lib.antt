@@ -2,6 +2,7 @@ pub mod Forest
 pub mod Contents
 pub mod Used
 pub mod Containing
+pub mod Covers
 pub mod Edited
 pub mod Kept
 pub mod PageState

@@ -51,6 +51,20 @@ is_svg_content Group = true
 is_svg_content Shape = true
 is_svg_content Inner = true
 
+-- an image map (HTML, "Image maps")
+abbrev pub is_map : Kind → Bool
+is_map Block = false
+is_map Inline = false
+is_map InlineBlock = false
+is_map Image = false
+is_map Svg = false
+is_map Text = false
+is_map Map = true
+is_map Area = false
+is_map Group = false
+is_map Shape = false
+is_map Inner = false
+
 -- an area of an image map (HTML, "Image maps")
 abbrev pub is_area : Kind → Bool
 is_area Block = false

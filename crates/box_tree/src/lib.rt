@@ -9,6 +9,7 @@
 #![tactic(auto)]
 
 mod containing;
+mod covers;
 mod edit;
 mod form;
 mod item;
