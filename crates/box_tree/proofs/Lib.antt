@@ -12,11 +12,13 @@ pub mod TakenLemmas
 pub mod TotalLemmas
 pub mod SuitsLemmas
 pub mod CountLemmas
+pub mod CoverLemmas
 pub mod RemoveLemmas
 pub mod MoveLemmas
 pub mod PlaceLemmas
 pub mod BoxLemmas
 pub mod ContainingLemmas
+pub mod ReshapeLemmas
 pub mod RestyleLemmas
 pub mod ScrollLemmas
 pub mod ChangeLemmas

@@ -2,11 +2,13 @@ pub mod Forest
 pub mod Contents
 pub mod Used
 pub mod Containing
+pub mod Covers
 pub mod Edited
 pub mod Kept
 pub mod PageState
 pub mod ForestCode
 pub mod Planned
+pub mod Forms
 pub mod Suits
 pub mod SuitsBelow
 pub mod Totals

@@ -1,2 +1,3 @@
 pub mod Circles
 pub mod Corners
+pub mod Tests

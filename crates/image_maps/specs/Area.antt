@@ -1,13 +1,13 @@
 -- HTML, "Image map processing model": the shape that an area is made of by its `shape` attribute and by the list of
 -- numbers of its `coords` attribute. The numbers are whole units here, and points are counted in fine units, 64 to a unit,
 -- from the padding corner of the image.
-use Rattle.std.specs.Prelude.{ℕ, ◌+◌, ◌*◌, ◌^◌, ◌≤◌, ℤ, pos, ◌*ℤ◌, ◌≤ℤ◌, ◌<ℤ◌, unsigned_abs, nat_le, true, if◌then◌else◌, List, [], ◌∷◌, length, slice_index_or}
+use Rattle.std.specs.Prelude.{ℕ, ◌+◌, ◌*◌, ◌%◌, ◌^◌, ◌≤◌, ◌==◌, ℤ, pos, ◌*ℤ◌, ◌≤ℤ◌, ◌<ℤ◌, int_le, int_lt, unsigned_abs, nat_le, Bool, true, ◌&&◌, if◌then◌else◌, List, [], ◌∷◌, length, slice_index_or}
 use Rattle.std.specs.Int.{int_min, int_max}
 use Rattle.poly_shapes.specs.declared.point.Point.{Point}
 use Rattle.poly_shapes.specs.declared.point.FillRule.TheVariants.{EvenOdd}
 use Rattle.poly_shapes.specs.Segments.{square, distance, ring}
 use Rattle.poly_shapes.specs.Outline.{Outline}
-use Rattle.poly_shapes.specs.Fill.{Fills}
+use Rattle.poly_shapes.specs.Fill.{crossings, Fills}
 use Rattle.image_maps.specs.declared.area.AreaKind.{AreaKind}
 use Rattle.image_maps.specs.declared.area.AreaKind.TheVariants.{Rect, Circle, Poly, Default}
 
@@ -89,3 +89,31 @@ ring_of points = record { points = points; subs = record { first = 0; count = le
 
 abbrev pub outline_of : AreaKind → List ℤ → Outline
 outline_of kind numbers = ring_of (corners kind numbers)
+
+-- ---- the same as tests, for definitions that choose by what an area covers
+
+abbrev pub is_between : (one other at : ℤ) → Bool
+is_between one other at = int_le (fine (int_min one other)) at && int_lt at (fine (int_max one other))
+
+abbrev pub is_in_rect : List ℤ → (x y : ℤ) → Bool
+is_in_rect numbers x y =
+    nat_le 4 (length numbers) && (is_between (number numbers 0) (number numbers 2) x && is_between (number numbers 1) (number numbers 3) y)
+
+abbrev pub is_in_circle : List ℤ → (x y : ℤ) → Bool
+is_in_circle numbers x y =
+    nat_le 3 (length numbers)
+    && (int_lt (pos 0) (number numbers 2)
+    && nat_le (square (distance x (fine (number numbers 0))) + square (distance y (fine (number numbers 1)))) (square (64 * unsigned_abs (number numbers 2))))
+
+abbrev pub is_in_poly : List ℤ → (x y : ℤ) → Bool
+is_in_poly numbers x y = nat_le 6 (length numbers) && (crossings (ring (in_twos numbers)) x y % 2 == 1)
+
+-- whether an area covers a point
+abbrev pub is_covered_by : AreaKind → List ℤ → (x y : ℤ) → Bool
+is_covered_by Rect numbers x y = is_in_rect numbers x y
+is_covered_by Circle numbers x y = is_in_circle numbers x y
+is_covered_by Poly numbers x y = is_in_poly numbers x y
+is_covered_by Default numbers x y = true
+
+abbrev pub covers_point : Area → (x y : ℤ) → Bool
+covers_point area x y = is_covered_by area.kind area.numbers x y

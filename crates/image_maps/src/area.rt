@@ -1,6 +1,6 @@
 ghost use Rattle.std.specs.Prelude.{◌≡◌, ◌↔◌, ◌^◌, ◌<◌, ◌≤◌, unsigned_abs, length, IsTrue, IfOk};
 ghost use Rattle.std.specs.List.{All};
-ghost use Rattle.image_maps.specs.Area.{IsNumber, corners, outline_of, Covers, vertices};
+ghost use Rattle.image_maps.specs.Area.{IsNumber, corners, outline_of, Covers, covers_point, vertices};
 
 use crate::round::in_circle;
 use crate::straight::{in_rect, poly_of};
@@ -57,6 +57,16 @@ impl AreaShape {
     /// Whether the area covers a point below 2^123 in size, which is counted in fine units from the padding corner of
     /// the image. HTML, "Image map processing model".
     pub fn covers(&self, x: i128, y: i128) -> bool
+        requires x { unsigned_abs x < 2 ^ 123 }
+        requires y { unsigned_abs y < 2 ^ 123 }
+        ensures covers { IsTrue result ↔ Covers self.now x y }
+        ensures test { result ≡ covers_point self.now x y }
+    {
+        self.holds(x, y)
+    }
+
+    // Whether the area covers a point, by its kind.
+    fn holds(&self, x: i128, y: i128) -> bool
         requires x { unsigned_abs x < 2 ^ 123 }
         requires y { unsigned_abs y < 2 ^ 123 }
         ensures { IsTrue result ↔ Covers self.now x y }
