@@ -8,7 +8,8 @@ use Rattle.affine.specs.Map.{IsWithinBound}
 use Rattle.spaces.specs.Bound.{is_within_bound}
 use Rattle.spaces.specs.Checked.{if_within}
 
-test-from : (m : Parts) → IsWithinBound m → is_within_bound m ≡ true
+-- what is within the bound passes the test, and what isn't fails it
+pub test-from : (m : Parts) → IsWithinBound m → is_within_bound m ≡ true
 unfolding is_within_bound
 test-from m is = grind (arith, nat_tests, is.a, is.b, is.c, is.d, is.e, is.f, is.q)
 
@@ -23,6 +24,13 @@ bound-from m is = record {
   f = grind (arith, nat_tests);
   q = grind (arith, nat_tests);
 }
+
+pub test-beyond : (m : Parts) → (IsWithinBound m → ⊥) → is_within_bound m ≡ false
+test-beyond m beyond = by_test (is_within_bound m) refl
+  where
+    by_test : (b : Bool) → is_within_bound m ≡ b → b ≡ false
+    by_test true is = absurd (beyond (bound-from m is))
+    by_test false is = refl
 
 -- what is there exactly within the bound
 pub within-or_none : (o : Option Parts) (m : Parts) → IsSome o ↔ IsWithinBound m → IfSome o (λ k. k ≡ m) → o ≡ if_within m

@@ -6,3 +6,5 @@ pub mod SpaceLemmas
 pub mod ValueLemmas
 pub mod WalkLemmas
 pub mod WidthLemmas
+pub mod ViewLemmas
+pub mod ShownLemmas

@@ -1,19 +1,26 @@
 -- Where a node stands: its space is the product of maps along its containing blocks, from the viewport inward
 -- (CSS 2.2, 10.1; CSS Transforms 1, 3). A map is a matrix over one denominator, in lowest terms.
-use Rattle.std.specs.Prelude.{ℕ, List, [], ◌∷◌, ◌++◌, map, fold, Option, Some, None, ◌&&◌, if◌then◌else◌, slice_index_or, ℤ, pos, neg_ℤ, ◌+ℤ◌, ◌*ℤ◌}
+use Rattle.std.specs.Prelude.{ℕ, List, [], ◌∷◌, ◌++◌, map, fold, Option, Some, None, Bool, true, false, not, ◌&&◌, if◌then◌else◌, slice_index_or, ℤ, pos, neg_ℤ, ◌+ℤ◌, ◌-ℤ◌, ◌*ℤ◌}
+use Rattle.std.specs.Int.{int_max}
+use Rattle.std.specs.List.{list_all}
 use Rattle.std.specs.Option.{option_map, option_and_then}
 use Rattle.fractions.specs.declared.rect.Spot.{Spot}
 use Rattle.affine.specs.declared.map.Parts.{Parts}
 use Rattle.affine.specs.Map.{identity_map, translation, product}
 use Rattle.affine.specs.Function.{function_map}
 use Rattle.affine.specs.Point.{local_point as point_in}
+use Rattle.view_boxes.specs.declared.port.Port.{Port}
+use Rattle.view_boxes.specs.Views.{is_disabled, equivalent_transform}
+use Rattle.box_tree.specs.declared.kind.Kind.{Kind}
+use Rattle.box_tree.specs.declared.kind.Kind.TheVariants.{Block, Inline, InlineBlock, Image, Svg, Text, Map, Area, Group, Shape, Inner}
 use Rattle.box_tree.specs.declared.piece.Piece.{Piece}
 use Rattle.box_tree.specs.declared.viewport.Viewport.{Viewport}
 use Rattle.box_tree.specs.declared.containing.Holder.{Holder}
 use Rattle.box_tree.specs.declared.containing.Holder.TheVariants.{Node as HolderNode, Initial, Viewport as HolderViewport}
 use Rattle.box_tree.specs.Forest.{Label, Placed}
 use Rattle.box_tree.specs.Contents.{Contents, placed_of}
-use Rattle.box_tree.specs.Used.{has_acting_transform, is_clipping, is_block_container}
+use Rattle.box_tree.specs.Suits.{is_svg_content}
+use Rattle.box_tree.specs.Used.{has_acting_transform, is_clipping, is_block_container, makes_viewport}
 use Rattle.box_tree.specs.Containing.{Standing, parent_of, sought, outermost, containing_block_chain}
 use Rattle.spaces.specs.declared.space.FinePoint.{FinePoint}
 
@@ -47,6 +54,60 @@ padding_corner n = corner_of n n.boxes
 abbrev pub first_box : List Piece → Piece
 first_box [] = record { line = 0; l = pos 0; t = pos 0; w = pos 0; h = pos 0 }
 first_box (box ∷ boxes) = box
+
+-- what two borders leave of a side of a box, in fine units, of which 64 are a unit: a side of its padding box (CSS 2.2, 8.1),
+-- and 0 where they are wider
+abbrev pub padding_side : ℤ → ℤ → ℤ → ℤ
+padding_side side first last = pos 64 *ℤ int_max (side -ℤ first -ℤ last) (pos 0)
+
+-- a viewport of sides 0 without a viewBox
+abbrev pub no_port : Port
+no_port = record { x = pos 0; y = pos 0; w = pos 0; h = pos 0; view = None }
+
+-- the place and the viewBox of the viewport that an svg, or an svg inside it, makes in its own space
+abbrev pub port_of : Label → Port
+port_of n = no_port
+
+-- the sides of that viewport in fine units (SVG 2, "Establishing a new SVG viewport"): those of the padding box of an svg, 0
+-- without a box, and those that an svg inside it is given
+abbrev pub viewport_width : Label → ℤ
+viewport_width n = if is_svg_content n.kind then (port_of n).w else padding_side (first_box n.boxes).w (left_border n) (right_border n)
+
+abbrev pub viewport_height : Label → ℤ
+viewport_height n = if is_svg_content n.kind then (port_of n).h else padding_side (first_box n.boxes).h (top_border n) (bottom_border n)
+
+-- whether the rendering of what is in a node is disabled: a side of its viewport or of its viewBox is 0
+abbrev pub disables : Label → Bool
+disables n = makes_viewport n.kind && is_disabled (viewport_width n) (viewport_height n) (port_of n).view
+
+-- the factor of the viewBox of a node, where it makes a viewport whose rendering isn't disabled
+abbrev pub view_factor : Label → List Parts
+view_factor n =
+    if makes_viewport n.kind && not (disables n)
+    then equivalent_transform (viewport_width n) (viewport_height n) (port_of n) ∷ []
+    else []
+
+-- whether a node of this kind is laid out: a map and its areas aren't (HTML, "Image maps")
+abbrev pub is_laid_out : Kind → Bool
+is_laid_out Block = true
+is_laid_out Inline = true
+is_laid_out InlineBlock = true
+is_laid_out Image = true
+is_laid_out Svg = true
+is_laid_out Text = true
+is_laid_out Map = false
+is_laid_out Area = false
+is_laid_out Group = true
+is_laid_out Shape = true
+is_laid_out Inner = true
+
+-- whether what is in a node can have a space: the node is laid out, and the rendering of what is in it isn't disabled
+abbrev pub shows : Label → Bool
+shows n = is_laid_out n.kind && not (disables n)
+
+-- whether a node with its ancestors has a space: it is laid out, and each of them shows what is in it
+abbrev pub has_space : Standing → Bool
+has_space n = is_laid_out n.label.kind && list_all shows n.above
 
 -- the origin of a transform in the space of its node (CSS Transforms 1, 4), twice, since a centre can have half units:
 -- the corner of the box and what is given, or the centre of the box
@@ -85,10 +146,10 @@ scroll_factor parent n =
     then translation (neg_ℤ n.scroll.x) (neg_ℤ n.scroll.y) (pos 1) ∷ []
     else []
 
--- the factors of a node as a containing block for what it holds, with its parent before it: its padding corner, and its
--- scroll
+-- the factors of a node as a containing block for what it holds, with its parent before it: its padding corner, its scroll,
+-- and its viewBox
 abbrev pub inner_factors : Option Label → Label → List Parts
-inner_factors parent n = padding_corner n ++ scroll_factor parent n
+inner_factors parent n = padding_corner n ++ (scroll_factor parent n ++ view_factor n)
 
 abbrev pub holder_factors : Option Standing → List Parts
 holder_factors None = []
@@ -108,9 +169,13 @@ space_along viewport n (holder ∷ holders) = fold product (space_along viewport
 abbrev pub standing_at : Placed → Standing
 standing_at p = record { label = p.label; above = p.above }
 
+-- the space of a node with its ancestors, where it has one
+abbrev pub space_of : Viewport → Standing → Option Parts
+space_of viewport n = if has_space n then Some (space_along viewport n (containing_block_chain n)) else None
+
 -- the space of the node of an id
 abbrev pub space : Contents → ℕ → Option Parts
-space page id = option_map (λ p. space_along page.viewport (standing_at p) (containing_block_chain (standing_at p))) (placed_of page id)
+space page id = option_and_then (λ p. space_of page.viewport (standing_at p)) (placed_of page id)
 
 -- two numbers as a point in fine units
 abbrev pub fine_point : ℤ × ℤ → FinePoint

@@ -1,9 +1,10 @@
 ghost use Rattle.std.specs.Prelude.{◌≡◌, ◌<◌, [], IsTrue};
 ghost use Rattle.box_tree.specs.Contents.{has_id, IsValid};
 ghost use Rattle.spaces.specs.Bound.{is_bounded};
-ghost use Rattle.spaces.specs.Checked.{checked_space, are_checked, is_checked_from};
+ghost use Rattle.spaces.specs.Checked.{checked_space, are_checked, is_checked_from, is_shown};
 
 use crate::checked::checked_space;
+use crate::views::{all_show, is_laid_out, shows};
 use affine::Map;
 use box_tree::Page;
 use fractions::{Blank, Brand, Ledger, Steps};
@@ -50,11 +51,16 @@ fn within_from_with<L: Ledger>(page: &Page, id: u32, blank: Blank) -> bool
     requires some_parts { 0 < blank.parts }
     ensures { result ≡ is_checked_from page.now.contents id }
 {
-    is_checked_from(page, id, 0, None, &mut Steps::<L>::new(blank))
+    let steps = &mut Steps::<L>::new(blank);
+    let parent = page.node(id, steps).parent;
+    if !all_show(page, parent, steps) {
+        return true;
+    }
+    is_checked_from(page, id, 0, None, steps)
 }
 
-// Whether no product on the way to a node, or to one below it, passes the bound. The space of its parent is known, which
-// is 0 for the root.
+// Whether no product on the way to a node, or to one below it, passes the bound. Each of its ancestors shows what is in it.
+// The space of its parent is known, which is 0 for the root.
 fn is_checked_from<L: Ledger>(
     page: &Page,
     id: u32,
@@ -64,14 +70,21 @@ fn is_checked_from<L: Ledger>(
 ) -> bool
     requires valid { IsValid page.now.contents }
     requires there { IsTrue (has_id page.now.contents id) }
+    requires shown { IsTrue (is_shown page.now.contents id) }
     requires outer { outer ≡ checked_space page.now.contents parent }
     ensures { result ≡ is_checked_from page.now.contents id }
 {
+    let node = page.node(id, steps);
+    if !is_laid_out(node.kind) {
+        return true;
+    }
     let space = checked_space(page, id, parent, outer, steps);
     if space.is_none() {
         return false;
     }
-    let node = page.node(id, steps);
+    if !shows(node) {
+        return true;
+    }
     for child in node.children.as_slice() {
         if !is_checked_from(page, *child, id, space, steps) {
             return false;

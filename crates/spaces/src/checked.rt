@@ -5,17 +5,19 @@ ghost use Rattle.affine.specs.Function.{function_map};
 ghost use Rattle.computed_style.specs.Ranges.{IsFunctionInRange};
 ghost use Rattle.box_tree.specs.Contents.{has_id, node_of, IsValid};
 ghost use Rattle.box_tree.specs.Kept.{label_of};
-ghost use Rattle.spaces.specs.Spaces.{inner_factors, transform_around, doubled_origin, first_box, own_factors};
-ghost use Rattle.spaces.specs.Checked.{then_product, checked_products, checked_space, inner_factors_of, own_factors_of};
+ghost use Rattle.spaces.specs.Spaces.{inner_factors, view_factor, transform_around, doubled_origin, first_box, own_factors};
+ghost use Rattle.spaces.specs.Checked.{after_view, then_product, checked_products, checked_space, inner_factors_of, own_factors_of};
 ghost use Rattle.spaces.specs.Sizes.{HasNumbersInRange, IsOriginInRange};
 
 use crate::factors::{
     doubled_origin, from_origin, moving_by, padding_corner, scroll_factor, scrolled, to_origin,
 };
+use crate::views::view_of;
 use affine::{Map, compose, identity, matrix};
 use box_tree::{Holder, Node, Page, has_acting_transform};
 use computed_style::{Function, Functions};
 use fractions::{Ledger, Spot, Steps};
+use view_boxes::ViewMap;
 
 // The space of a node, where no product on the way there passes the bound: along its containing blocks (CSS 2.2, 10.1),
 // at most 256 of them, as far as one whose space is known; id 0 stands for none.
@@ -56,13 +58,39 @@ fn inside<L: Ledger>(page: &Page, id: u32, space: Option<Map>, steps: &mut Steps
     inner(space, parent, node)
 }
 
-// The factors of a containing block after a map: its padding corner, where it has a box, and its scroll, where it clips.
+// The factors of a containing block after a map: its padding corner, where it has a box, its scroll, where it clips, and its
+// viewBox.
 fn inner(space: Option<Map>, parent: Option<&Node>, node: &Node) -> Option<Map>
     requires { HasNumbersInRange (label_of node.now) }
     ensures { result ≡ checked_products space (inner_factors (option_map label_of (option_copied parent.entry)) (label_of node.now)) }
 {
     let cornered = some_product(space, padding_corner(node));
-    some_product(cornered, scroll_factor(parent, node))
+    let scrolled = some_product(cornered, scroll_factor(parent, node));
+    viewed(scrolled, node)
+}
+
+// The map of the viewBox of a node after a map, where it makes a viewport whose rendering isn't disabled.
+fn viewed(space: Option<Map>, node: &Node) -> Option<Map>
+    requires { HasNumbersInRange (label_of node.now) }
+    ensures { result ≡ checked_products space (view_factor (label_of node.now)) }
+{
+    match view_of(node) {
+        Some(view) => after_view(space, &view),
+        None => space,
+    }
+}
+
+// What a viewport answers, after a map.
+fn after_view(space: Option<Map>, view: &ViewMap) -> Option<Map>
+    ensures { result ≡ after_view space view.now }
+{
+    if view.is_disabled() {
+        return space;
+    }
+    match view.map() {
+        Some(map) => product(space, &map),
+        None => None,
+    }
 }
 
 // One factor more, where there is one.
@@ -149,6 +177,7 @@ fn map_of(function: &Function) -> Map
 fn product(outer: Option<Map>, inner: &Map) -> Option<Map>
     ensures { result ≡ then_product outer inner.now }
 {
+    let _within = inner.parts();
     match outer {
         Some(outer) => compose(&outer, inner),
         None => None,

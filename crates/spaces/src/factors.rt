@@ -141,7 +141,7 @@ fn doubled_middle(edge: i64, side: i64) -> i64
 }
 
 // The first box of a node, and one of zeros where it has none.
-fn first_box(node: &Node) -> Piece
+pub(crate) fn first_box(node: &Node) -> Piece
     requires { HasNumbersInRange (label_of node.now) }
     ensures first { result ≡ first_box node.now.boxes }
     ensures range { IsBoxInRange result }

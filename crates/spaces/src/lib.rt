@@ -13,6 +13,7 @@ mod checked;
 mod factors;
 mod space;
 mod values;
+mod views;
 
 pub use bound::{within, within_from};
 pub use factors::{bottom_border, left_border, right_border, top_border};

@@ -4,6 +4,7 @@ ghost use Rattle.spaces.specs.Spaces.{space, local_point};
 ghost use Rattle.spaces.specs.Bound.{is_bounded};
 
 use crate::checked::checked_space;
+use crate::views::has_space;
 use affine::{Map, local};
 use box_tree::Page;
 use fractions::{Ledger, Steps};
@@ -24,6 +25,9 @@ pub fn plain_space<L: Ledger>(page: &Page, id: u32, steps: &mut Steps<L>) -> Opt
     ensures { result ≡ space page.now.contents id }
 {
     page.validity();
+    if !has_space(page, id, steps) {
+        return None;
+    }
     checked_space(page, id, 0, None, steps)
 }
 

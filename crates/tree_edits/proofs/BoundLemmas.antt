@@ -17,13 +17,13 @@ use Rattle.box_tree.proofs.PlacedLemmas.{id-placed_in}
 use Rattle.box_tree.proofs.MoveLemmas.{each-placed}
 use Rattle.box_tree.proofs.TakenLemmas.{each-taken_out}
 use Rattle.spaces.specs.Bound.{is_bounded}
-use Rattle.spaces.specs.Checked.{checked_at, are_checked, is_checked_from}
+use Rattle.spaces.specs.Checked.{is_checked_at, are_checked, is_checked_from}
 use Rattle.spaces.proofs.CheckedLemmas.{checked-page}
 use Rattle.tree_edits.specs.Near.{is_bounded_from}
 
 -- no product on the way to a node with these ancestors passes the bound
 abbrev pub IsChecked : Viewport → List Label → Label → Type 0
-IsChecked viewport above n = is_some (checked_at viewport (record { label = n; above = above })) ≡ true
+IsChecked viewport above n = is_checked_at viewport (record { label = n; above = above }) ≡ true
 
 both : (a b : Bool) → (a && b) ≡ true → (a ≡ true) × (b ≡ true)
 both true b is = (refl, is)
@@ -32,7 +32,7 @@ both false b is = absurd (false≢true is)
 each-from : (viewport : Viewport) (above : List Label) (f : Forest) → are_checked viewport above f ≡ true → EachNode (IsChecked viewport) above f
 each-from viewport above End is = tt
 each-from viewport above (Grow n below others) is =
-    let first = both (is_some (checked_at viewport (record { label = n; above = above }))) (are_checked viewport (n ∷ above) below && are_checked viewport above others) is in
+    let first = both (is_checked_at viewport (record { label = n; above = above })) (are_checked viewport (n ∷ above) below && are_checked viewport above others) is in
     let rest = both (are_checked viewport (n ∷ above) below) (are_checked viewport above others) first.1 in
     (first.0, (each-from viewport (n ∷ above) below rest.0, each-from viewport above others rest.1))
 

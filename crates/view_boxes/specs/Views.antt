@@ -1,7 +1,7 @@
 -- What a viewport makes of its viewBox: SVG 2, "Computing the equivalent transform of an SVG viewport", in exact numbers.
 -- The viewport is (ex, ey, ew, eh) there, and the viewBox (vx, vy, vw, vh). Numbers over vw vh are given by their
 -- numerators: ew / vw is ew vh of them.
-use Rattle.std.specs.Prelude.{◌≡◌, Bool, false, ◌||◌, IsTrue, Option, Some, None, ℤ, pos, ◌+ℤ◌, ◌-ℤ◌, ◌*ℤ◌}
+use Rattle.std.specs.Prelude.{◌≡◌, Bool, true, false, ◌||◌, IsTrue, Option, Some, None, ℤ, pos, ◌+ℤ◌, ◌-ℤ◌, ◌*ℤ◌}
 use Rattle.std.specs.Int.{int_max, int_min}
 use Rattle.std.specs.Ordering.{int_eq}
 use Rattle.affine.specs.declared.map.Parts.{Parts}
@@ -91,3 +91,14 @@ IsViewMap w h port Disabled = IsTrue (is_disabled w h port.view)
 IsViewMap w h port (Given map) =
     (is_disabled w h port.view ≡ false) × ((map ≡ equivalent_transform w h port) × IsWithinBound (equivalent_transform w h port))
 IsViewMap w h port Beyond = (is_disabled w h port.view ≡ false) × (IsWithinBound (equivalent_transform w h port) → ⊥)
+
+-- whether an answer says that rendering is disabled, and the map that it gives
+abbrev pub says_disabled : ViewMap → Bool
+says_disabled Disabled = true
+says_disabled (Given map) = false
+says_disabled Beyond = false
+
+abbrev pub given_map : ViewMap → Option Parts
+given_map Disabled = None
+given_map (Given map) = Some map
+given_map Beyond = None

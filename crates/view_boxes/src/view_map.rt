@@ -2,7 +2,7 @@ ghost use Rattle.std.specs.Prelude.{◌≡◌, ◌↔◌, ◌^◌, ◌≤◌, po
 ghost use Rattle.computed_style.specs.Ranges.{IsSide};
 ghost use Rattle.affine.specs.Map.{IsWithin};
 ghost use Rattle.view_boxes.specs.Ranges.{IsViewBoxInRange, IsPortInRange};
-ghost use Rattle.view_boxes.specs.Views.{IsViewMap, has_no_area, is_disabled, scale, scale_x, scale_y, side_x, side_y, doubled_share, doubled_translation, parts_of_view, parts_of};
+ghost use Rattle.view_boxes.specs.Views.{IsViewMap, says_disabled, given_map, has_no_area, is_disabled, scale, scale_x, scale_y, side_x, side_y, doubled_share, doubled_translation, parts_of_view, parts_of};
 
 use crate::port::{Align, Fit, Port, Side, ViewBox};
 use affine::{Map, Parts, from_parts};
@@ -16,6 +16,28 @@ pub enum ViewMap {
     Disabled,
     /// That map passes the bound on maps.
     Beyond,
+}
+
+impl ViewMap {
+    /// Whether nothing in the viewport is rendered.
+    pub fn is_disabled(&self) -> bool
+        ensures { result ≡ says_disabled self.now }
+    {
+        match self {
+            ViewMap::Disabled => true,
+            ViewMap::Given { .. } | ViewMap::Beyond => false,
+        }
+    }
+
+    /// The map, where it is given.
+    pub fn map(&self) -> Option<Map>
+        ensures { result ≡ given_map self.now }
+    {
+        match self {
+            ViewMap::Given { map } => Some(*map),
+            ViewMap::Disabled | ViewMap::Beyond => None,
+        }
+    }
 }
 
 /// The map of a viewport of `w` by `h` fine units (1/4096 px), each from 0 to 2^32, at the place of the port and with its
