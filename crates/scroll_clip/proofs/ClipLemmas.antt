@@ -19,7 +19,7 @@ use Rattle.box_tree.proofs.PlacedLemmas.{seen_at}
 use Rattle.box_tree.proofs.ContainingLemmas.{standing, label-seen, held_by, unheld}
 use Rattle.spaces.specs.Spaces.{standing_at, local_point}
 use Rattle.scroll_clip.specs.Curves.{padding_curve, HasCurvesInRange}
-use Rattle.scroll_clip.specs.Clips.{clipping_curve, clip_set_by, clip_of, clip_holds, inside_clips}
+use Rattle.scroll_clip.specs.Clips.{clipping_curve, clip_set_by, clip_of, clip_holds, lets_in, inside_clips}
 
 -- a node that clips has a box, and so a curve
 curve-at : (n : Label) (boxes : List Piece) → nat_lt 0 (length boxes) ≡ true → is_some (option_map (padding_curve n) (slice_get boxes 0)) ≡ false → ⊥
@@ -37,10 +37,6 @@ first-of false b is = absurd (false≢true is)
 curve-there : (parent : Option Label) (n : Label) → is_clipping parent n ≡ true → is_some (clipping_curve n) ≡ false → ⊥
 curve-there None n is none = false≢true is
 curve-there (Some parent) n is none = curve-at n n.boxes (first-of (has_box n) _ (second-of _ _ is)) none
-
--- whether the clip of a containing block holds a point of the viewport
-abbrev clip_of_holds : Contents → ℤ → ℤ → Standing → Bool
-clip_of_holds page x y holder = clip_holds (clip_set_by holder) (local_point page holder.label.id x y)
 
 module _ (page : Contents) (valid : IsValid page) (id : ℕ) (node : Node) (seen : node_of page id ≡ Some node) where
   abbrev n : Standing
@@ -67,7 +63,7 @@ module _ (page : Contents) (valid : IsValid page) (id : ℕ) (node : Node) (seen
       ∙ ap (λ (l : Label). if clips page id then clipping_curve l else None) (sym (label-seen page valid id node seen))
 
   abbrev inside-from : ℤ → ℤ → Option Placed → Bool
-  inside-from x y o = option_map_or (λ p. list_all (clip_of_holds page x y) (containing_block_chain (standing_at p))) o true
+  inside-from x y o = option_map_or (λ p. list_all (lets_in page x y) (containing_block_chain (standing_at p))) o true
 
   -- inside another node
   pub inside-held : (x y : ℤ) (holder : ℕ) → containing_block page id ≡ HolderNode holder →
@@ -76,16 +72,16 @@ module _ (page : Contents) (valid : IsValid page) (id : ℕ) (node : Node) (seen
       let is = held_by page valid id node seen holder by in
       let found' : placed_of page holder ≡ Some (record { label = is.standing_is.label; above = is.standing_is.above; below = is.stands.below }) = ap (placed_of page) (sym is.id_is) ∙ is.stands.found in
       ap (inside-from x y) found
-      ∙ ap (list_all (clip_of_holds page x y)) is.chain_is
-      ∙ ap (λ (h : ℕ). clip_holds (clip_set_by is.standing_is) (local_point page h x y) && list_all (clip_of_holds page x y) (containing_block_chain is.standing_is)) is.id_is
-      ∙ ap (λ (o : Option Rounded). clip_holds o (local_point page holder x y) && list_all (clip_of_holds page x y) (containing_block_chain is.standing_is)) (sym (ap (λ (o : Option Placed). option_map_or (λ p. clip_set_by (standing_at p)) o None) found'))
+      ∙ ap (list_all (lets_in page x y)) is.chain_is
+      ∙ ap (λ (h : ℕ). clip_holds (clip_set_by is.standing_is) (local_point page h x y) && list_all (lets_in page x y) (containing_block_chain is.standing_is)) is.id_is
+      ∙ ap (λ (o : Option Rounded). clip_holds o (local_point page holder x y) && list_all (lets_in page x y) (containing_block_chain is.standing_is)) (sym (ap (λ (o : Option Placed). option_map_or (λ p. clip_set_by (standing_at p)) o None) found'))
       ∙ ap (λ (b : Bool). clip_holds (clip_of page holder) (local_point page holder x y) && b) (sym (ap (inside-from x y) found'))
 
   -- inside no node
   pub inside-unheld : (x y : ℤ) (by : Holder) → containing_block page id ≡ by → ((holder : ℕ) → by ≡ HolderNode holder → ⊥) → inside_clips page id x y ≡ true
   inside-unheld x y by is no_node =
       ap (inside-from x y) found
-      ∙ ap (list_all (clip_of_holds page x y)) (unheld page valid id node seen by is no_node).1
+      ∙ ap (list_all (lets_in page x y)) (unheld page valid id node seen by is no_node).1
 
   -- a node sets no clip just where it doesn't clip
   pub clip-none : IsNone (clip_of page id) ↔ (clips page id ≡ false)

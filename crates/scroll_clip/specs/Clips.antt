@@ -30,11 +30,12 @@ clip_of page id = option_map_or (λ p. clip_set_by (standing_at p)) (placed_of p
 abbrev pub clip_holds : Option Rounded → Option FinePoint → Bool
 clip_holds clip at = option_map_or (λ curve. option_map_or (λ a. in_rounded curve a.x a.y) at false) clip true
 
--- whether a point of the viewport lies inside the clips of a node: for each of its containing blocks, itself left out, what
--- that one sets as its clip holds the point in the space of that one, without the scroll of what it holds
+-- whether what a containing block sets as its clip holds a point of the viewport, in the space of that containing block,
+-- which the scroll of what it holds doesn't move
+abbrev pub lets_in : Contents → ℤ → ℤ → Standing → Bool
+lets_in page x y holder = clip_holds (clip_set_by holder) (local_point page holder.label.id x y)
+
+-- whether a point of the viewport lies inside the clips of a node: each of its containing blocks, itself left out, lets it in
 abbrev pub inside_clips : Contents → ℕ → ℤ → ℤ → Bool
 inside_clips page id x y =
-    option_map_or
-    (λ p. list_all (λ holder. clip_holds (clip_set_by holder) (local_point page holder.label.id x y)) (containing_block_chain (standing_at p)))
-    (placed_of page id)
-    true
+    option_map_or (λ p. list_all (lets_in page x y) (containing_block_chain (standing_at p))) (placed_of page id) true

@@ -3,7 +3,7 @@ ghost use Rattle.box_tree.specs.Contents.{IsWithin};
 
 use super::*;
 use box_tree::{Edit, Kind, Piece, PieceList};
-use computed_style::{PointerEvents, Position, Style};
+use computed_style::{Overflow, PointerEvents, Position, Style};
 use fractions::{Blank, Brand, Spot};
 use std::process::Abort;
 use std::test::Fail;
@@ -352,6 +352,132 @@ fn hidden_boxes_and_those_without_pointer_events_are_passed_over(
         ],
         Blank::new(1),
     )
+}
+
+// An add of a node that may clip, with a border and radii that are alike on all sides and at all corners.
+fn curved(
+    alloc: Global,
+    parent: u32,
+    at: u32,
+    kind: Kind,
+    overflow: Option<Overflow>,
+    border: i64,
+    radius: i64,
+    sides: &[(i64, i64, i64, i64)],
+) -> Result<Edit, Fail> {
+    let mut style = Style::new(alloc);
+    style.overflow = overflow;
+    style.border = [border; 4];
+    style.radii = [radius; 8];
+    style.display_block = true;
+    Ok(Edit::Add {
+        parent,
+        at,
+        kind,
+        boxes: boxes_of(alloc, sides)?,
+        style,
+    })
+}
+
+#[test]
+fn corners_are_rounded_and_clips_cut_off(rt: HostRuntime) -> Result<(), Fail> {
+    let alloc = rt.alloc();
+    let clip = Some(Overflow::Clip);
+    let sides = [(0, 0, 6400, 2560)];
+    // the radii of 2 are half of its height, 1280 units, and 640 inside its border
+    let edits = vec![in alloc;
+        block(alloc, 0, 0, &[(0, 0, 12_800, 12_800)])?,
+        curved(alloc, 1, 0, Kind::Block, clip, 640, 639_936, &sides)?,
+        block(alloc, 2, 0, &sides)?,
+    ]?;
+    compare::<Brand>(
+        &rt,
+        alloc,
+        &edits,
+        &[
+            (374, 374, &[1]),
+            (375, 375, &[2, 1]),
+            (827, 827, &[2, 1]),
+            (828, 828, &[3, 2, 1]),
+        ],
+        Blank::new(1),
+    )?;
+    // the content of an image lies above a block that comes after its box, inside the padding curve alone
+    let square = [(0, 0, 100, 100)];
+    let edits = vec![in alloc;
+        block(alloc, 0, 0, &[(0, 0, 200, 200)])?,
+        curved(alloc, 1, 0, Kind::Image, None, 10, 50, &square)?,
+        block(alloc, 1, 1, &square)?,
+    ]?;
+    compare::<Brand>(
+        &rt,
+        alloc,
+        &edits,
+        &[
+            (14, 14, &[3, 1]),
+            (15, 15, &[3, 2, 1]),
+            (21, 21, &[3, 2, 1]),
+            (22, 22, &[2, 3, 1]),
+        ],
+        Blank::new(1),
+    )
+}
+
+// A list that clips, one block in it that is longer, and an absolute one that the list holds only where it is positioned.
+fn scroller(alloc: Global) -> Result<Vec<Edit>, Fail> {
+    let none = [0, 0, 0, 0];
+    let max = Spot { x: 0, y: 40 };
+    let sides = [(10, 10, 40, 40)];
+    Ok(vec![in alloc;
+        block(alloc, 0, 0, &[(0, 0, 100, 100)])?,
+        curved(alloc, 1, 0, Kind::Block, Some(Overflow::Clip), 0, 0, &sides)?,
+        block(alloc, 2, 0, &[(0, 0, 20, 80)])?,
+        placed(
+            alloc,
+            2,
+            1,
+            Kind::Block,
+            Position::Absolute,
+            none,
+            &[(60, 0, 20, 90)]
+        )?,
+        Edit::Place {
+            id: 2,
+            anchor: Spot { x: 0, y: 0 },
+            boxes: boxes_of(alloc, &sides)?,
+            max,
+        },
+        Edit::Scroll { id: 2, x: 0, y: 30 },
+    ]?)
+}
+
+#[test]
+fn a_scrolled_list_cuts_off_what_it_holds(rt: HostRuntime) -> Result<(), Fail> {
+    let alloc = rt.alloc();
+    let mut edits = scroller(alloc)?;
+    compare::<Brand>(
+        &rt,
+        alloc,
+        &edits,
+        &[
+            (15, 45, &[3, 2, 1]),
+            (15, 55, &[1]),
+            (65, 85, &[4, 1]),
+            (75, 45, &[4, 1]),
+        ],
+        Blank::new(1),
+    )?;
+    edits.push(Edit::Scroll {
+        id: 2,
+        x: 0,
+        y: 999,
+    })?;
+    compare::<Brand>(&rt, alloc, &edits, &[(15, 49, &[3, 2, 1])], Blank::new(1))?;
+    let mut style = Style::new(alloc);
+    style.overflow = Some(Overflow::Clip);
+    style.position = Position::Relative;
+    edits.push(Edit::Restyle { id: 2, style })?;
+    compare::<Brand>(&rt, alloc, &edits, &[(75, 45, &[1])], Blank::new(1))
 }
 
 // Compares the chains of the nodes of a page of three nested blocks and one beside them.
