@@ -8,7 +8,7 @@ use Rattle.script_lines.specs.Command.{meaning}
 use Rattle.script_lines.specs.declared.command.Command.{Command}
 use Rattle.script_lines.specs.declared.command.LineFault.{LineFault}
 use Rattle.script_lines.specs.declared.command.LineFault.TheVariants as fault
-use Rattle.hit_script.specs.Answered.{Known, IsAnswered, Replies, Answers, Appends, scene_of}
+use Rattle.hit_script.specs.Answered.{Known, IsAnswered, Replies, Answers, Appends}
 use Rattle.hit_script.specs.Cutting.{Counted, counted, cut_by_newline}
 use Rattle.hit_script.specs.declared.cutter.Cut.TheVariants.{Long}
 use Rattle.hit_script.specs.Lines.{HasBegun, lines}
@@ -34,7 +34,7 @@ module _ (line : List ℕ) (asks : Option (Result Command LineFault)) (is : aske
   text_by : (was : Scene) → (option_map_or (answer_to_command was) asks (record { reply = []; scene = was })).reply ≡ replies_from was (line ∷ [])
   text_by was = ap (λ (a : Answer). a.reply) (sym (answer_by was)) ∙ sym (append-nil _)
 
-  made_by : (pointer behind : State) (log rest : List Entry) (text : List ℕ) → option_map_or (λ asked. scripted_command asked pointer log) asks (Some (record { text = []; pointer = pointer; rest = log })) ≡ Some (record { text = text; pointer = behind; rest = rest }) → scripted_lines (line ∷ []) pointer log ≡ Some (record { text = text; pointer = behind; rest = rest })
+  pub made_by : (pointer behind : State) (log rest : List Entry) (text : List ℕ) → option_map_or (λ asked. scripted_command asked pointer log) asks (Some (record { text = []; pointer = pointer; rest = log })) ≡ Some (record { text = text; pointer = behind; rest = rest }) → scripted_lines (line ∷ []) pointer log ≡ Some (record { text = text; pointer = behind; rest = rest })
   made_by pointer behind log rest text makes =
       let made : scripted_line line pointer log ≡ Some (record { text = text; pointer = behind; rest = rest }) = ap (λ (o : Option (Result Command LineFault)). option_map_or (λ asked. scripted_command asked pointer log) o (Some (record { text = []; pointer = pointer; rest = log }))) is ∙ makes in
       ap (λ (o : Option Scripted). option_and_then (λ first. text_before first.text (scripted_lines [] first.pointer first.rest)) o) made

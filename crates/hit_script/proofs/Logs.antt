@@ -73,10 +73,10 @@ pub scripted_lines-append : (xs ys : List (List ℕ)) (pointer : State) (log : L
 scripted_lines-append [] ys pointer log = nothing_before (scripted_lines ys pointer log)
 scripted_lines-append (line ∷ others) ys pointer log = more_behind others ys (scripted_line line pointer log) (scripted_lines-append others ys)
 
-pub scripted_nothing : (old : Option (List Entry)) (after : List Entry) (pointer : State) → old ≡ Some after → IsScripted (scripted_lines [] pointer) old after [] pointer
+unfoldable pub scripted_nothing : (old : Option (List Entry)) (after : List Entry) (pointer : State) → old ≡ Some after → IsScripted (scripted_lines [] pointer) old after [] pointer
 scripted_nothing old after pointer told = record { entries = []; follows = (after, told, sym (append-nil after)); makes = λ rest. refl }
 
-pub scripted_both : (xs ys : List (List ℕ)) (pointer0 : State) {pointer1 pointer2 : State} {first : Option (List Entry)} {mid after : List Entry} {text more : List ℕ} → IsScripted (scripted_lines xs pointer0) first mid text pointer1 → IsScripted (scripted_lines ys pointer1) (Some mid) after more pointer2 → IsScripted (scripted_lines (xs ++ ys) pointer0) first after (text ++ more) pointer2
+unfoldable pub scripted_both : (xs ys : List (List ℕ)) (pointer0 : State) {pointer1 pointer2 : State} {first : Option (List Entry)} {mid after : List Entry} {text more : List ℕ} → IsScripted (scripted_lines xs pointer0) first mid text pointer1 → IsScripted (scripted_lines ys pointer1) (Some mid) after more pointer2 → IsScripted (scripted_lines (xs ++ ys) pointer0) first after (text ++ more) pointer2
 scripted_both xs ys pointer0 {pointer1} {pointer2} {first} {mid} {after} {text} {more} begins goes_on = record {
   entries = begins.entries ++ goes_on.entries;
   follows = follows_both begins.follows goes_on.follows;

@@ -1,6 +1,6 @@
 -- What a turn of the pointer is answered with, by the scene and by the log.
-use Rattle.std.proofs.Common.{◌≡◌, ℕ, ℤ, ◌==◌, List, [], ◌∷◌, ◌++◌, length, map, take, suc, Bool, true, false, Option, Some, None, Result, Ok, Err, refl, sym, ap, subst, ◌∙◌, append_assoc, arith}
-use Rattle.std.specs.Prelude.{IfOk, IfSome, OnOk, option_map, option_and_then, ◌&&◌, if◌then◌else◌}
+use Rattle.std.proofs.Common.{◌≡◌, ℕ, ℤ, ◌==◌, List, [], ◌∷◌, ◌++◌, length, map, Bool, true, false, Option, Some, None, Result, Ok, Err, refl, sym, ap, subst, ◌∙◌, append_assoc, arith}
+use Rattle.std.specs.Prelude.{IfOk, IfSome, OnOk}
 use Rattle.std.specs.Option.{option_map_or}
 use Rattle.std.specs.Ordering.{int_eq}
 use Rattle.std.proofs.lemmas.Bool.Decides.{Decides-eqb, Decides-int_eq}
@@ -17,13 +17,13 @@ use Rattle.script_lines.specs.declared.command.Command.{Command}
 use Rattle.script_lines.specs.declared.command.Command.TheVariants.{Point, Refresh}
 use Rattle.script_lines.specs.declared.command.LineFault.{LineFault}
 use Rattle.hit_script.specs.Answered.{Appends, IsSpotted, Known, Replies, RepliesBeside, Turns, known, scene_of}
-use Rattle.hit_script.specs.Log.{Entry, TopEntry, ChainEntry, HasEntry, LogsAll, Logs, Scripted, Told, at_point, told_top, told_chain, told_alive, flag_before, scripted_change, scripted_turn, scripted_refresh, chain_entries, has_entries}
+use Rattle.hit_script.specs.Log.{Entry, TopEntry, HasEntry, LogsAll, Logs, Told, told_top, told_chain, told_alive, scripted_turn, scripted_refresh, chain_entries, has_entries}
 use Rattle.hit_script.specs.Script.{Scene, answer_to_command, answer_to_turn, answer_to_refresh, chain_at}
 use Rattle.hit_script.proofs.Logs.{logs_both}
 
 -- The entries of a turn are taken one after another.
 
-same_int : (x : ℤ) → int_eq x x ≡ true
+pub same_int : (x : ℤ) → int_eq x x ≡ true
 same_int x = (Decides-int_eq x x).1 refl
 
 same_id : (n : ℕ) → (n == n) ≡ true

@@ -1,5 +1,5 @@
 -- What a desk that was asked for some lines, and the pointer with it, tell of the text that was written for them.
-use Rattle.std.specs.Prelude.{◌≡◌, ℕ, ℤ, ◌≤◌, Bool, List, ◌++◌, Option, Some, option_map, IfSome, Result}
+use Rattle.std.specs.Prelude.{◌≡◌, ℕ, ℤ, Bool, List, ◌++◌, Option, Some, option_map, IfSome, Result}
 use Rattle.box_tree.specs.Contents.{Contents, IsWithin}
 use Rattle.mouse_events.specs.State.{State}
 use Rattle.script_lines.specs.declared.command.Command.{Command}

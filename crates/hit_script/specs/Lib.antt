@@ -6,4 +6,7 @@ pub mod Script
 pub mod Log
 pub mod Answered
 pub mod Ending
+pub mod Words
+pub mod Load
+pub mod Tallied
 pub mod Canned

@@ -112,7 +112,7 @@ fn answer_command<D: Desk, L: Ledger>(
 }
 
 // Whether a line has no reply: it is blank, and not too long.
-fn is_passed_over(line: &[u8]) -> bool
+pub(crate) fn is_passed_over(line: &[u8]) -> bool
     ensures { result ≡ (not (is_long line.now) && blank line.now) }
 {
     line.len() <= LONGEST_LINE && is_blank(line)

@@ -12,6 +12,7 @@ mod desks;
 mod edits;
 mod ends;
 mod lines;
+mod loads;
 mod maps;
 mod painting;
 mod pointer;

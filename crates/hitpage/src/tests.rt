@@ -139,15 +139,24 @@ fn a_script_is_answered_on_standard_output(rt: HostRuntime) -> Result<(), Fail> 
 }
 
 #[test]
-fn a_word_is_a_usage_fault(rt: HostRuntime) -> Result<(), Fail> {
+fn words_of_no_form_are_a_usage_fault(rt: HostRuntime) -> Result<(), Fail> {
     let alloc = rt.alloc();
     let usage = b"usage: hitpage [--load N]\n";
     for words in [
         ["hitpage", "--help"].as_slice(),
         ["hitpage", ""].as_slice(),
-        ["hitpage", "--load", "2"].as_slice(),
+        ["hitpage", "--load", "0"].as_slice(),
+        ["hitpage", "--load=2", "x"].as_slice(),
     ] {
         assert_run(&rt, alloc, words, SCRIPT, 2, b"", usage)?;
     }
     Ok(())
+}
+
+#[test]
+fn a_load_writes_its_summary_alone(rt: HostRuntime) -> Result<(), Fail> {
+    let alloc = rt.alloc();
+    let two = b"load 2 nodes 4 listed 33 sum 51\n";
+    assert_run(&rt, alloc, &["hitpage", "--load", "2"], SCRIPT, 0, two, b"")?;
+    assert_run(&rt, alloc, &["hitpage", "--load=2"], SCRIPT, 0, two, b"")
 }

@@ -1,9 +1,6 @@
-use Rattle.std.proofs.Common.{◌≡◌, ◌<◌, ◌++◌, ◌∷◌, [], ℕ, Bool, List, length, length-append, take, get_or, map, sym, ap, ◌∙◌, arith}
-use Rattle.std.specs.Prelude.{IfSome}
-use Rattle.std.proofs.lemmas.List.{take_all, take_more}
-use Rattle.box_tree.specs.Contents.{has_id}
-use Rattle.hit_script.specs.Log.{LogsAll, has_entries}
-use Rattle.hit_script.proofs.Logs.{grows_same, grows_both, grows_by, logs_both, logs_none}
+use Rattle.std.proofs.Common.{◌<◌, ◌∷◌, [], length, length-append, take, get_or, ◌∙◌, arith}
+use Rattle.std.proofs.lemmas.List.{take_more}
+use Rattle.hit_script.proofs.Logs.{grows_both, grows_by, logs_both}
 use Rattle.hit_script.proofs.TurnLaws.{has_entries-more, alive_more}
 use Rattle.hit_script.proofs.pointing.living.Goals as goal
 
