@@ -8,6 +8,7 @@ use std::process::Abort;
 use std::test::Fail;
 use tree_edits::Engine;
 
+mod areas;
 mod desks;
 mod edits;
 mod ends;

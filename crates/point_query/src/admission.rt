@@ -8,7 +8,7 @@ ghost use Rattle.spaces.specs.Bound.{is_bounded};
 ghost use Rattle.scroll_clip.specs.Curves.{border_curve, padding_curve, HasCurvesInRange};
 ghost use Rattle.point_query.specs.Elements.{elements_of, part_admits};
 
-use crate::image_maps::element_of;
+use crate::areas::element_of;
 use box_tree::{Item, Node, Page, Part};
 use computed_style::{Inherited, admits_box};
 use fractions::{Ledger, Steps};

@@ -7,9 +7,9 @@
 #![tactic(auto)]
 
 mod admission;
+mod areas;
 mod chains;
 mod elements;
-mod image_maps;
 
 pub use chains::chain;
 pub use elements::{hit, top};

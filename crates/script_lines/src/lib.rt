@@ -5,7 +5,9 @@
 //! `itoa` for numbers, on `box_tree` for edits and their faults, on `mouse_events` for events, and on `fractions` for points.
 #![tactic(auto)]
 
+mod areas;
 mod command;
+mod forms;
 mod inherited;
 mod reply;
 mod rows;

@@ -1,7 +1,7 @@
 // Lines and replies, each expected value worked out by hand.
 
 use crate::{Command, LineFault, Reply, command_of, is_blank, print};
-use box_tree::{Edit, EditFault, Kind};
+use box_tree::{Edit, EditFault, Form, Kind};
 use computed_style::{Ends, Function, Overflow, PointerEvents, Position, Rule, Style};
 use mouse_events::{Event, EventKind};
 use std::alloc::Global;
@@ -158,6 +158,8 @@ fn kinds_have_their_names(rt: HostRuntime) -> Result<(), Fail> {
         (r#""inline-block""#, Some(Kind::InlineBlock)),
         (r#""image""#, Some(Kind::Image)),
         (r#""text""#, Some(Kind::Text)),
+        (r#""map""#, Some(Kind::Map)),
+        (r#""area""#, Some(Kind::Area)),
         (r#""svg""#, None),
         (r#""Block""#, None),
         (r#""""#, None),
@@ -669,6 +671,59 @@ fn scrolls_have_a_point_and_that_of_a_node_an_id(rt: HostRuntime) -> Result<(), 
         (br#"{"op":"scrollview"}"#.as_slice(), None),
     ] {
         assert_eq!(rt; scrolled(rt.alloc(), line), expected);
+    }
+    Ok(())
+}
+
+// The form of a `shape` with this value of its key, and none where that is no command.
+fn formed(alloc: Global, shape: &str) -> Result<Option<Form>, Fail> {
+    let line = format!(in alloc; "{{\"op\":\"shape\",\"id\":7,\"shape\":{shape}}}")?;
+    match command_of(alloc, line.as_bytes()) {
+        Ok(Command::Edit(Edit::Reshape { id: 7, form })) => Ok(Some(form)),
+        _ => Ok(None),
+    }
+}
+
+// What a form is: whether the point 5, 5 in units lies in an area, or the map that an image names.
+fn told(form: &Form) -> Option<(bool, u32)> {
+    match form {
+        Form::Cover(area) => Some((area.covers(320, 320), 0)),
+        Form::MapName(map) => Some((false, *map)),
+        _ => None,
+    }
+}
+
+#[test]
+fn areas_and_maps_have_their_forms(rt: HostRuntime) -> Result<(), Fail> {
+    let alloc = rt.alloc();
+    for (text, expected) in [
+        (r#"["rect",[0,0,10,10]]"#, Some((true, 0))),
+        (r#"["rect",[1048576,-1048576]]"#, Some((false, 0))),
+        (r#"["rect",[1048577,0,0,0]]"#, None),
+        (r#"["rect",0,0,10,10,0,0]"#, None),
+        (r#"["rect",[0,0,10,10],0]"#, None),
+        (r#"["circle",[5,5,1,99]]"#, Some((true, 0))),
+        (r#"["circle",[]]"#, Some((false, 0))),
+        (r#"["circle",[-1048577]]"#, None),
+        (r#"["circle",[1.0]]"#, None),
+        (r#"["poly",[0,0,20,0,0,20]]"#, Some((true, 0))),
+        (r#"["poly",[1,2,3]]"#, Some((false, 0))),
+        (r#"["poly",1]"#, None),
+        (r#"["default"]"#, Some((true, 0))),
+        (r#"["default",[]]"#, None),
+        (r#"["map",4294967295]"#, Some((false, 4294967295))),
+        (r#"["map",0]"#, Some((false, 0))),
+        (r#"["map",4294967296]"#, None),
+        (r#"["map",-1]"#, None),
+        (r#"["map"]"#, None),
+        (r#"["star",0]"#, None),
+        (r#"["view"]"#, None),
+        (r#"["polygon",[0,0,5,5,0,5]]"#, None),
+        (r#"[]"#, None),
+        (r#"{}"#, None),
+    ] {
+        let found = formed(alloc, text)?.and_then(|form| told(&form));
+        assert_eq!(rt; found, expected, "{text}");
     }
     Ok(())
 }

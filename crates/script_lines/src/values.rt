@@ -197,6 +197,8 @@ pub(crate) fn kind_from(found: Option<&Value>) -> Option<Kind>
         "inline-block" => Some(Kind::InlineBlock),
         "image" => Some(Kind::Image),
         "text" => Some(Kind::Text),
+        "map" => Some(Kind::Map),
+        "area" => Some(Kind::Area),
         _ => None,
     }
 }

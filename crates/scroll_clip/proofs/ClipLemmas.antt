@@ -1,8 +1,8 @@
 -- The clips of a node are that of its containing block, where that is a node, and those of that node.
-use Rattle.std.proofs.Common.{◌≡◌, ℕ, ◌∷◌, List, [], Option, Some, None, Bool, true, false, is_some, if◌then◌else◌, refl, sym, ap, ◌∙◌}
-use Rattle.std.specs.Prelude.{◌&&◌, ◌↔◌, ℤ, IsNone, nat_lt, length, slice_get}
+use Rattle.std.proofs.Common.{◌≡◌, ℕ, ◌∷◌, List, [], Option, Some, None, Bool, true, false, is_some, if◌then◌else◌, refl, sym, ap, subst, ◌∙◌}
+use Rattle.std.specs.Prelude.{◌&&◌, ◌||◌, ◌↔◌, ℤ, IsNone, IfSome, nat_lt, length}
 use Rattle.std.specs.List.{list_all}
-use Rattle.std.specs.Option.{option_map, option_map_or}
+use Rattle.std.specs.Option.{option_map_or}
 use Rattle.std.proofs.lemmas.Bool.{false≢true}
 use Rattle.corner_shapes.specs.declared.rounded.Rounded.{Rounded}
 use Rattle.box_tree.specs.declared.node.Node.{Node}
@@ -11,7 +11,10 @@ use Rattle.box_tree.specs.declared.containing.Holder.{Holder}
 use Rattle.box_tree.specs.declared.containing.Holder.TheVariants.{Node as HolderNode}
 use Rattle.box_tree.specs.Forest.{Label, Placed}
 use Rattle.box_tree.specs.Contents.{Contents, node_of, placed_of, IsValid, IsSuited}
-use Rattle.box_tree.specs.Used.{has_box, is_clipping}
+use Rattle.box_tree.specs.Forms.{IsFormInRange}
+use Rattle.box_tree.specs.declared.form.Form.{Form}
+use Rattle.box_tree.specs.declared.form.Form.TheVariants.{Outline, Cover, View, Port, MapName}
+use Rattle.box_tree.specs.Used.{has_box, gives_port, is_clipping}
 use Rattle.box_tree.specs.Containing.{Standing, parent_of, containing_block, containing_block_chain, clips}
 use Rattle.box_tree.specs.Kept.{label_of}
 use Rattle.box_tree.proofs.MoveLemmas.{each-placed}
@@ -19,11 +22,19 @@ use Rattle.box_tree.proofs.PlacedLemmas.{seen_at}
 use Rattle.box_tree.proofs.ContainingLemmas.{standing, label-seen, held_by, unheld}
 use Rattle.spaces.specs.Spaces.{standing_at, local_point}
 use Rattle.scroll_clip.specs.Curves.{padding_curve, HasCurvesInRange}
-use Rattle.scroll_clip.specs.Clips.{clipping_curve, clip_set_by, clip_of, clip_holds, lets_in, inside_clips}
+use Rattle.scroll_clip.specs.Clips.{port_clip, curve_by, clipping_curve, clip_set_by, clip_of, clip_holds, lets_in, inside_clips}
 
--- a node that clips has a box, and so a curve
-curve-at : (n : Label) (boxes : List Piece) → nat_lt 0 (length boxes) ≡ true → is_some (option_map (padding_curve n) (slice_get boxes 0)) ≡ false → ⊥
-curve-at n [] some none = false≢true some
+-- a node that clips has a box or a viewport, and so a curve
+port-there : (form : Option Form) → gives_port form ≡ true → is_some (port_clip form) ≡ false → ⊥
+port-there None some none = false≢true some
+port-there (Some (Outline shape)) some none = false≢true some
+port-there (Some (Cover area)) some none = false≢true some
+port-there (Some (View view)) some none = false≢true some
+port-there (Some (Port port)) some none = false≢true (sym none)
+port-there (Some (MapName map)) some none = false≢true some
+
+curve-at : (n : Label) (boxes : List Piece) → (nat_lt 0 (length boxes) || gives_port n.form) ≡ true → is_some (curve_by n boxes) ≡ false → ⊥
+curve-at n [] some none = port-there n.form some none
 curve-at n (box ∷ boxes) some none = false≢true (sym none)
 
 second-of : (a b : Bool) → (a && b) ≡ true → b ≡ true
@@ -36,7 +47,7 @@ first-of false b is = absurd (false≢true is)
 
 curve-there : (parent : Option Label) (n : Label) → is_clipping parent n ≡ true → is_some (clipping_curve n) ≡ false → ⊥
 curve-there None n is none = false≢true is
-curve-there (Some parent) n is none = curve-at n n.boxes (first-of (has_box n) _ (second-of _ _ is)) none
+curve-there (Some parent) n is none = curve-at n n.boxes (first-of (has_box n || gives_port n.form) _ (second-of _ _ is)) none
 
 module _ (page : Contents) (valid : IsValid page) (id : ℕ) (node : Node) (seen : node_of page id ≡ Some node) where
   abbrev n : Standing
@@ -54,6 +65,11 @@ module _ (page : Contents) (valid : IsValid page) (id : ℕ) (node : Node) (seen
         radii = suited.style_in_range.radii;
         boxes = suited.in_range;
       })
+
+  pub form-seen : IfSome node.form IsFormInRange
+  form-seen =
+      let suited = (each-placed IsSuited page.tree [] id (seen_at page id node seen).place valid.suited found).0 in
+      subst (λ (l : Label). IfSome l.form IsFormInRange) (sym (label-seen page valid id node seen)) suited.formed.in_range
 
   -- the clip that a node sets, as a reader sees it
   pub clip-seen : clip_of page id ≡ (if clips page id then clipping_curve (label_of node) else None)

@@ -1,22 +1,39 @@
 -- Clips (CSS 2.2, 11.1.1; CSS Backgrounds and Borders 3, "Corner Clipping"): a node that clips shows what it holds only
 -- inside its clip. It holds what it is a containing block of, directly or through others, and neither itself nor what lies
 -- below it in the tree alone.
-use Rattle.std.specs.Prelude.{ℕ, slice_get, Option, None, Bool, true, false, if◌then◌else◌, ℤ}
-use Rattle.std.specs.Option.{option_map, option_map_or}
+use Rattle.std.specs.Prelude.{ℕ, List, [], ◌∷◌, Option, Some, None, Bool, true, false, if◌then◌else◌, ℤ}
+use Rattle.std.specs.Option.{option_map_or}
 use Rattle.std.specs.List.{list_all}
 use Rattle.corner_shapes.specs.declared.rounded.Rounded.{Rounded}
 use Rattle.corner_shapes.specs.Held.{in_rounded}
+use Rattle.box_tree.specs.declared.form.Form.{Form}
+use Rattle.box_tree.specs.declared.form.Form.TheVariants.{Outline, Cover, View, Port, MapName}
+use Rattle.box_tree.specs.declared.piece.Piece.{Piece}
 use Rattle.box_tree.specs.Forest.{Label}
 use Rattle.box_tree.specs.Contents.{Contents, placed_of}
 use Rattle.box_tree.specs.Used.{is_clipping}
 use Rattle.box_tree.specs.Containing.{Standing, parent_of, containing_block_chain}
 use Rattle.spaces.specs.declared.space.FinePoint.{FinePoint}
 use Rattle.spaces.specs.Spaces.{standing_at, local_point}
-use Rattle.scroll_clip.specs.Curves.{padding_curve}
+use Rattle.scroll_clip.specs.Curves.{padding_curve, port_curve}
 
--- the curve at which a node clips, where it does: the padding curve of its first box
+-- the viewport that a form gives (SVG 2, 8.2), as a clip (SVG 2, 3.8)
+abbrev pub port_clip : Option Form → Option Rounded
+port_clip None = None
+port_clip (Some (Outline shape)) = None
+port_clip (Some (Cover area)) = None
+port_clip (Some (View view)) = None
+port_clip (Some (Port port)) = Some (port_curve port)
+port_clip (Some (MapName map)) = None
+
+-- the curve at which a node clips, where it does: the padding curve of its first box; of an svg inside an svg, which has no
+-- box, its viewport
+abbrev pub curve_by : Label → List Piece → Option Rounded
+curve_by n [] = port_clip n.form
+curve_by n (box ∷ boxes) = Some (padding_curve n box)
+
 abbrev pub clipping_curve : Label → Option Rounded
-clipping_curve n = option_map (padding_curve n) (slice_get n.boxes 0)
+clipping_curve n = curve_by n n.boxes
 
 -- the clip that a node sets, in its own space: none where it doesn't clip
 abbrev pub clip_set_by : Standing → Option Rounded

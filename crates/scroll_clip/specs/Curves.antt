@@ -7,6 +7,7 @@ use Rattle.corner_shapes.specs.declared.rounded.Rounded.{Rounded}
 use Rattle.corner_shapes.specs.Overlap.{used_corners}
 use Rattle.corner_shapes.specs.Curve.{fine, padding_curve as inside_borders}
 use Rattle.box_tree.specs.declared.piece.Piece.{Piece}
+use Rattle.view_boxes.specs.declared.port.Port.{Port}
 use Rattle.box_tree.specs.Forest.{Label}
 use Rattle.box_tree.specs.Contents.{IsBoxInRange}
 use Rattle.spaces.specs.Spaces.{top_border, right_border, bottom_border, left_border}
@@ -41,6 +42,10 @@ border_curve n box = record {
 -- the padding curve of a box of a node: the border curve inside the borders
 unfoldable pub padding_curve : Label → Piece → Rounded
 padding_curve n box = inside_borders (border_curve n box) (borders n)
+
+-- the viewport that an svg inside an svg is given, as a box with square corners: half open (own)
+abbrev pub port_curve : Port → Rounded
+port_curve port = record { l = port.x; t = port.y; r = port.x +ℤ port.w; b = port.y +ℤ port.h; corners = square_corners }
 
 -- the numbers of a node that make its curves are within their limits
 pub record HasCurvesInRange (n : Label) : Type 0 where

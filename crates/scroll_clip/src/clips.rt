@@ -3,14 +3,15 @@ ghost use Rattle.std.specs.Prelude.{◌≡◌, ◌<◌, ◌↔◌, false, IsTrue
 ghost use Rattle.corner_shapes.specs.Curve.{IsMeasured};
 ghost use Rattle.box_tree.specs.Contents.{has_id, IsValid, IsWithin};
 ghost use Rattle.box_tree.specs.Containing.{clips};
+ghost use Rattle.box_tree.specs.Forms.{IsFormInRange};
 ghost use Rattle.box_tree.specs.Kept.{label_of};
 ghost use Rattle.spaces.specs.Bound.{is_bounded};
 ghost use Rattle.spaces.specs.Spaces.{local_point};
 ghost use Rattle.scroll_clip.specs.Curves.{HasCurvesInRange};
-ghost use Rattle.scroll_clip.specs.Clips.{clipping_curve, clip_of, clip_holds, inside_clips};
+ghost use Rattle.scroll_clip.specs.Clips.{clipping_curve, port_clip, clip_of, clip_holds, inside_clips};
 
-use crate::curves::padding_curve;
-use box_tree::{Holder, Node, Page};
+use crate::curves::{padding_curve, port_curve};
+use box_tree::{Form, Holder, Node, Page};
 use corner_shapes::Rounded;
 use fractions::{Blank, Brand, Ledger, Steps};
 use spaces::{FinePoint, local_point};
@@ -109,14 +110,27 @@ fn clip_of<L: Ledger>(page: &Page, id: u32, steps: &mut Steps<L>) -> Option<Roun
     }
 }
 
-// The curve at which a node clips, where it has a box.
+// The curve at which a node clips: the padding curve of its first box, and without a box the viewport of its form.
 fn clipping_curve(node: &Node) -> Option<Rounded>
-    requires { HasCurvesInRange (label_of node.now) }
+    requires curves { HasCurvesInRange (label_of node.now) }
+    requires form { IfSome node.now.form IsFormInRange }
     ensures curve { result ≡ clipping_curve (label_of node.now) }
     ensures measured { IfSome result (λ curve. IsMeasured curve) }
 {
     match node.boxes.as_slice().first() {
         Some(piece) => Some(padding_curve(node, piece)),
-        None => None,
+        None => port_clip(&node.form),
+    }
+}
+
+// The viewport that a form gives, as a clip.
+fn port_clip(form: &Option<Form>) -> Option<Rounded>
+    requires { IfSome form.now IsFormInRange }
+    ensures curve { result ≡ port_clip form.now }
+    ensures measured { IfSome result (λ curve. IsMeasured curve) }
+{
+    match form {
+        Some(Form::Port(port)) => Some(port_curve(port)),
+        Some(Form::Outline(_) | Form::Cover(_) | Form::View(_) | Form::MapName(_)) | None => None,
     }
 }

@@ -1,15 +1,17 @@
 // The curves of the boxes of a node.
-ghost use Rattle.std.specs.Prelude.{◌≡◌, ◌^◌, ◌+ℤ◌, All};
-ghost use Rattle.computed_style.specs.Ranges.{IsSide};
+ghost use Rattle.std.specs.Prelude.{◌≡◌, ◌^◌, ◌≤◌, ◌+ℤ◌, unsigned_abs, All};
+ghost use Rattle.computed_style.specs.Ranges.{IsSide, IsWithin};
+ghost use Rattle.view_boxes.specs.Ranges.{IsPortInRange};
 ghost use Rattle.corner_shapes.specs.Radii.{AreRadiiWithin};
 ghost use Rattle.corner_shapes.specs.Curve.{fine, IsMeasured, AreBordersWithin};
 ghost use Rattle.box_tree.specs.Contents.{IsBoxInRange, IsSpanInRange};
 ghost use Rattle.box_tree.specs.Kept.{label_of};
-ghost use Rattle.scroll_clip.specs.Curves.{borders, box_corners, border_curve, padding_curve, HasCurvesInRange};
+ghost use Rattle.scroll_clip.specs.Curves.{borders, box_corners, border_curve, padding_curve, port_curve, HasCurvesInRange};
 
 use box_tree::{Node, Piece};
 use corner_shapes::{Corners, Edges, Rounded, used_radii};
 use spaces::{bottom_border, left_border, right_border, top_border};
+use view_boxes::Port;
 
 /// The rounded border box of a box of a node, in fine units (1/4096 px): with the used radii where it is the only box of
 /// the node, and square where the node has several. CSS Backgrounds and Borders 3, "Corner Shaping" and "Overlapping
@@ -77,4 +79,29 @@ fn borders(node: &Node) -> Edges
         bottom: bottom_border(node),
         left: left_border(node),
     }
+}
+
+// The viewport that an svg inside an svg is given, as a box with square corners.
+pub(crate) fn port_curve(port: &Port) -> Rounded
+    requires { IsPortInRange port.now }
+    ensures curve { result ≡ port_curve port.now }
+    ensures measured { IsMeasured result }
+{
+    Rounded {
+        l: port.x,
+        t: port.y,
+        r: far_side(port.x, port.w),
+        b: far_side(port.y, port.h),
+        corners: Corners { r: [0; 8] },
+    }
+}
+
+// The right or bottom side of a viewport.
+fn far_side(from: i64, side: i64) -> i64
+    requires from { IsWithin 26 from }
+    requires side { IsSide 26 side }
+    ensures place { result ≡ from +ℤ side }
+    ensures size { unsigned_abs result ≤ 2 ^ 34 }
+{
+    from + side
 }

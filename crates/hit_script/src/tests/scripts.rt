@@ -1,5 +1,5 @@
 // Scripts and the replies to them.
-use super::{THREE_BLOCKS, THREE_BLOCKS_REPLIES, assert_replies, maps, painting, scrolls, values};
+use super::{THREE_BLOCKS, THREE_BLOCKS_REPLIES, areas, assert_replies, maps, painting, scrolls, values};
 use std::test::Fail;
 
 const ROOT: &[u8] =
@@ -221,6 +221,8 @@ fn scripts_are_answered(rt: HostRuntime) -> Result<(), Fail> {
         (scrolls::ROUNDED, scrolls::ROUNDED_REPLIES),
         (scrolls::REFUSED_SCROLLS, scrolls::REFUSED_SCROLLS_REPLIES),
         (maps::AT_THE_BOUND, maps::AT_THE_BOUND_REPLIES),
+        (areas::AREAS, areas::AREAS_REPLIES),
+        (areas::AREAS_IN_BORDERS, areas::AREAS_IN_BORDERS_REPLIES),
         (values::HIDDEN, values::HIDDEN_REPLIES),
         (values::NO_TARGETS, values::NO_TARGETS_REPLIES),
     ] {

@@ -2,11 +2,14 @@
 use Rattle.std.proofs.Common.{Bool, None, if◌then◌else◌, sym, ap, ◌∙◌}
 use Rattle.box_tree.specs.Kept.{label_of}
 use Rattle.scroll_clip.specs.Clips.{clipping_curve}
-use Rattle.scroll_clip.proofs.ClipLemmas.{curves-seen, clip-seen}
+use Rattle.scroll_clip.proofs.ClipLemmas.{curves-seen, form-seen, clip-seen}
 use Rattle.scroll_clip.proofs.clips.clip_of.Goals as goal
 
-pub clipping_curve-requires : goal.clipping_curve-requires
-clipping_curve-requires g c = curves-seen c.args.page.now.contents c.requires.valid c.args.id c.node.result.now c.node.ensures.node
+pub clipping_curve-requires-clause-form : goal.clipping_curve-requires-clause-form
+clipping_curve-requires-clause-form g c = form-seen c.args.page.now.contents c.requires.valid c.args.id c.node.result.now c.node.ensures.node
+
+pub clipping_curve-requires-clause-curves : goal.clipping_curve-requires-clause-curves
+clipping_curve-requires-clause-curves g c = curves-seen c.args.page.now.contents c.requires.valid c.args.id c.node.result.now c.node.ensures.node
 
 pub returns-then-clips-clause-clip : goal.returns-then-clips-clause-clip
 returns-then-clips-clause-clip g c =
