@@ -19,6 +19,7 @@ fn node_of(alloc: Global, id: u32) -> Node
         style: Style::new(alloc),
         anchor: ORIGIN,
         boxes: Boxes(SmallVec::new(alloc)),
+        form: None,
         scroll: ORIGIN,
         max: ORIGIN,
     }

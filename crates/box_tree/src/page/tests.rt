@@ -11,6 +11,7 @@ use std::process::Abort;
 use std::test::Fail;
 
 mod counts;
+mod forms;
 mod kinds;
 mod layouts;
 mod reverts;

@@ -3,15 +3,22 @@ ghost use Rattle.std.specs.Prelude.{◌≡◌, ◌<◌, IsTrue};
 ghost use Rattle.box_tree.specs.Contents.{has_id};
 
 use super::*;
+use crate::form::Form;
 use computed_style::Position;
 
 // Each kind with the column of it in the tables below.
-const KINDS: [Kind; 5] = [
+const KINDS: [Kind; 11] = [
     Kind::Block,
     Kind::Inline,
     Kind::InlineBlock,
     Kind::Image,
+    Kind::Svg,
     Kind::Text,
+    Kind::Map,
+    Kind::Area,
+    Kind::Group,
+    Kind::Shape,
+    Kind::Inner,
 ];
 
 // So many boxes.
@@ -44,8 +51,9 @@ fn place_of(alloc: Global, id: u32, boxes: usize) -> Result<Edit, Fail> {
     })
 }
 
-// A page of a root 1 with a block 2, an inline 3, an inline-block 4 and an image 5, and a text 6 in the block.
-fn one_of_each(rt: &impl Abort, alloc: Global) -> Result<Page, Fail> {
+// A page of a root 1 with a block 2, an inline 3, an inline-block 4, an image 5, a text 6 in the block, an svg 7, a map 8 with
+// an area 9, and in the svg a group 10, a shape 11 and an inner svg 12.
+pub(super) fn one_of_each(rt: &impl Abort, alloc: Global) -> Result<Page, Fail> {
     let mut page = Page::new(alloc, 81_920, 46_080);
     for (parent, kind, boxes, id) in [
         (0, Kind::Block, 1, 1),
@@ -54,11 +62,32 @@ fn one_of_each(rt: &impl Abort, alloc: Global) -> Result<Page, Fail> {
         (1, Kind::InlineBlock, 0, 4),
         (1, Kind::Image, 0, 5),
         (2, Kind::Text, 0, 6),
+        (1, Kind::Svg, 0, 7),
+        (1, Kind::Map, 0, 8),
+        (8, Kind::Area, 0, 9),
+        (7, Kind::Group, 0, 10),
+        (7, Kind::Shape, 0, 11),
+        (7, Kind::Inner, 0, 12),
     ] {
         let edit = node_of_kind(alloc, parent, kind, boxes)?;
         assert_eq!(rt; answer(rt, &mut page, &edit), Ok(id));
     }
     Ok(page)
+}
+
+// What of that page may hold a node of a kind.
+fn home_of(kind: Kind) -> u32 {
+    match kind {
+        Kind::Area => 8,
+        Kind::Group | Kind::Shape | Kind::Inner => 7,
+        Kind::Block
+        | Kind::Inline
+        | Kind::InlineBlock
+        | Kind::Image
+        | Kind::Svg
+        | Kind::Text
+        | Kind::Map => 2,
+    }
 }
 
 #[test]
@@ -72,6 +101,10 @@ fn only_a_block_with_one_box_is_a_root(rt: HostRuntime) -> Result<(), Fail> {
         (Kind::InlineBlock, 1, Err(Some(6))),
         (Kind::Image, 1, Err(Some(6))),
         (Kind::Text, 1, Err(Some(6))),
+        (Kind::Svg, 1, Err(Some(6))),
+        (Kind::Map, 0, Err(Some(6))),
+        (Kind::Area, 0, Err(Some(6))),
+        (Kind::Shape, 0, Err(Some(6))),
     ] {
         let mut page = Page::new(alloc, 81_920, 46_080);
         let edit = node_of_kind(alloc, 0, kind, boxes)?;
@@ -86,20 +119,86 @@ fn kinds_hold_one_another_by_the_table(rt: HostRuntime) -> Result<(), Fail> {
     let alloc = rt.alloc();
     for (parent, held) in [
         // in the order of the kinds; the root holds no text
-        (1, [true, true, true, true, false]),
-        (2, [true, true, true, true, true]),
-        (3, [true, true, true, true, true]),
-        (4, [true, true, true, true, true]),
-        (5, [false, false, false, false, false]),
-        (6, [false, false, false, false, false]),
+        (
+            1,
+            [
+                true, true, true, true, true, false, true, false, false, false, false,
+            ],
+        ),
+        (
+            2,
+            [
+                true, true, true, true, true, true, true, false, false, false, false,
+            ],
+        ),
+        (
+            3,
+            [
+                true, true, true, true, true, true, true, false, false, false, false,
+            ],
+        ),
+        (
+            4,
+            [
+                true, true, true, true, true, true, true, false, false, false, false,
+            ],
+        ),
+        (
+            5,
+            [
+                false, false, false, false, false, false, false, false, false, false, false,
+            ],
+        ),
+        (
+            6,
+            [
+                false, false, false, false, false, false, false, false, false, false, false,
+            ],
+        ),
+        (
+            7,
+            [
+                false, false, false, false, false, false, false, false, true, true, true,
+            ],
+        ),
+        (
+            8,
+            [
+                false, false, false, false, false, false, false, true, false, false, false,
+            ],
+        ),
+        (
+            9,
+            [
+                false, false, false, false, false, false, false, false, false, false, false,
+            ],
+        ),
+        (
+            10,
+            [
+                false, false, false, false, false, false, false, false, true, true, true,
+            ],
+        ),
+        (
+            11,
+            [
+                false, false, false, false, false, false, false, false, false, false, false,
+            ],
+        ),
+        (
+            12,
+            [
+                false, false, false, false, false, false, false, false, true, true, true,
+            ],
+        ),
     ] {
         for (column, kind) in KINDS.iter().enumerate() {
             let mut page = one_of_each(&rt, alloc)?;
-            let below = node_of_kind(alloc, 2, *kind, 0)?;
-            assert_eq!(rt; answer(&rt, &mut page, &below), Ok(7));
+            let below = node_of_kind(alloc, home_of(*kind), *kind, 0)?;
+            assert_eq!(rt; answer(&rt, &mut page, &below), Ok(13));
             let edit = node_of_kind(alloc, parent, *kind, 0)?;
             let (added, moved) = if held[column] {
-                (Ok(8), Ok(0))
+                (Ok(14), Ok(0))
             } else {
                 (Err(Some(6)), Err(Some(6)))
             };
@@ -109,7 +208,7 @@ fn kinds_hold_one_another_by_the_table(rt: HostRuntime) -> Result<(), Fail> {
                 "{kind:?} in {parent}"
             );
             let edit = Edit::Move {
-                id: 7,
+                id: 13,
                 parent,
                 at: 0,
             };
@@ -127,29 +226,41 @@ fn kinds_hold_one_another_by_the_table(rt: HostRuntime) -> Result<(), Fail> {
 #[test]
 fn kinds_have_boxes_by_the_table(rt: HostRuntime) -> Result<(), Fail> {
     let alloc = rt.alloc();
-    for (id, kind, boxes, suits) in [
-        (2, Kind::Block, 0, true),
-        (2, Kind::Block, 1, true),
-        (2, Kind::Block, 2, false),
-        (3, Kind::Inline, 0, true),
-        (3, Kind::Inline, 3, true),
-        (4, Kind::InlineBlock, 1, true),
-        (4, Kind::InlineBlock, 2, false),
-        (5, Kind::Image, 1, true),
-        (5, Kind::Image, 2, false),
-        (6, Kind::Text, 0, true),
-        (6, Kind::Text, 3, true),
+    for (id, kind, boxes, suits, is_placed) in [
+        (2, Kind::Block, 0, true, true),
+        (2, Kind::Block, 1, true, true),
+        (2, Kind::Block, 2, false, false),
+        (3, Kind::Inline, 0, true, true),
+        (3, Kind::Inline, 3, true, true),
+        (4, Kind::InlineBlock, 1, true, true),
+        (4, Kind::InlineBlock, 2, false, false),
+        (5, Kind::Image, 1, true, true),
+        (5, Kind::Image, 2, false, false),
+        (6, Kind::Text, 0, true, true),
+        (6, Kind::Text, 3, true, true),
+        (7, Kind::Svg, 1, true, true),
+        (7, Kind::Svg, 2, false, false),
+        (8, Kind::Map, 0, true, false),
+        (8, Kind::Map, 1, false, false),
+        (9, Kind::Area, 0, true, false),
+        (9, Kind::Area, 1, false, false),
+        (10, Kind::Group, 0, true, false),
+        (10, Kind::Group, 1, false, false),
+        (11, Kind::Shape, 0, true, false),
+        (11, Kind::Shape, 1, false, false),
+        (12, Kind::Inner, 0, true, false),
+        (12, Kind::Inner, 1, false, false),
     ] {
         let mut page = one_of_each(&rt, alloc)?;
-        let edit = node_of_kind(alloc, 2, kind, boxes)?;
-        let added = if suits { Ok(7) } else { Err(Some(6)) };
+        let edit = node_of_kind(alloc, home_of(kind), kind, boxes)?;
+        let added = if suits { Ok(13) } else { Err(Some(6)) };
         assert_eq!(rt;
             answer(&rt, &mut page, &edit),
             added,
             "{kind:?} with {boxes}"
         );
         let edit = place_of(alloc, id, boxes)?;
-        let placed = if suits { Ok(0) } else { Err(Some(6)) };
+        let placed = if is_placed { Ok(0) } else { Err(Some(6)) };
         assert_eq!(rt; answer(&rt, &mut page, &edit), placed, "{kind:?}");
     }
     Ok(())
@@ -159,7 +270,7 @@ fn kinds_have_boxes_by_the_table(rt: HostRuntime) -> Result<(), Fail> {
 fn a_text_has_the_empty_style_alone(rt: HostRuntime) -> Result<(), Fail> {
     let alloc = rt.alloc();
     for (kind, style, expected) in [
-        (Kind::Text, Style::new(alloc), Ok(7)),
+        (Kind::Text, Style::new(alloc), Ok(13)),
         (
             Kind::Text,
             Style {
@@ -190,7 +301,32 @@ fn a_text_has_the_empty_style_alone(rt: HostRuntime) -> Result<(), Fail> {
                 position: Position::Static,
                 ..Style::new(alloc)
             },
-            Ok(7),
+            Ok(13),
+        ),
+        (Kind::Map, Style::new(alloc), Ok(13)),
+        (
+            Kind::Map,
+            Style {
+                floats: true,
+                ..Style::new(alloc)
+            },
+            Err(Some(6)),
+        ),
+        (
+            Kind::Area,
+            Style {
+                visible: Some(false),
+                ..Style::new(alloc)
+            },
+            Err(Some(6)),
+        ),
+        (
+            Kind::Group,
+            Style {
+                visible: Some(false),
+                ..Style::new(alloc)
+            },
+            Ok(13),
         ),
         (
             Kind::Image,
@@ -198,12 +334,12 @@ fn a_text_has_the_empty_style_alone(rt: HostRuntime) -> Result<(), Fail> {
                 position: Position::Fixed,
                 ..Style::new(alloc)
             },
-            Ok(7),
+            Ok(13),
         ),
     ] {
         let mut page = one_of_each(&rt, alloc)?;
         let edit = Edit::Add {
-            parent: 2,
+            parent: home_of(kind),
             at: 0,
             kind,
             boxes: PieceList(Vec::new(alloc)),
@@ -257,6 +393,8 @@ fn ids_are_from_1_on(rt: HostRuntime) -> Result<(), Fail> {
         assert_eq!(rt; place.in_range(), in_range);
         let style = Style::new(alloc);
         assert_eq!(rt; Edit::Restyle { id, style }.in_range(), in_range);
+        let form = Form::MapName(0);
+        assert_eq!(rt; Edit::Reshape { id, form }.in_range(), in_range);
     }
     let add = Edit::Add {
         parent: 0,
@@ -320,7 +458,7 @@ fn a_node_has_at_most_1_024_boxes(rt: HostRuntime) -> Result<(), Fail> {
         &rt,
         alloc,
         &mut page,
-        &[(1025, Err(Some(10))), (1024, Ok(7))],
+        &[(1025, Err(Some(10))), (1024, Ok(13))],
     )?;
     compare_places(
         &rt,
@@ -410,7 +548,7 @@ fn a_restyle_replaces_the_whole_style(rt: HostRuntime) -> Result<(), Fail> {
             (Position::Relative, false, Some(-3)),
         ),
         (
-            7,
+            13,
             Style::new(alloc),
             Err(Some(4)),
             (Position::Relative, false, Some(-3)),
