@@ -132,4 +132,5 @@ module _ (page : Contents) (valid : IsValid page) (id : ℕ) (node : Node) (seen
         boxes = suited.in_range;
         anchor = suited.anchor;
         scroll = scroll-in_range _ _ suited.scroll;
+        form = suited.formed.in_range;
       })

@@ -41,6 +41,9 @@ pub rest-read-side :
     (s a b m : ℤ) → IsSide 26 s → IsSide 20 a → IsSide 20 b → m ≡ int_max (read (read (read s -ℤ read a) -ℤ read b)) (pos 0) → IsSide 26 (read m)
 rest-read-side s a b m rs ra rb is = subst (IsSide 26) (sym (rest-read s a b m rs ra rb is)) (rest-side s a b rs ra rb)
 
+pub given-read : (r : ℤ) → IsSide 26 r → read r ≡ r
+given-read r range = omega (arith, ints, range.0, range.1)
+
 pub fine-read : (r : ℤ) → IsSide 32 r → read r ≡ r
 fine-read r range = omega (arith, ints, range.0, range.1)
 

@@ -13,6 +13,8 @@ use Rattle.view_boxes.specs.declared.port.Port.{Port}
 use Rattle.view_boxes.specs.Views.{is_disabled, equivalent_transform}
 use Rattle.box_tree.specs.declared.kind.Kind.{Kind}
 use Rattle.box_tree.specs.declared.kind.Kind.TheVariants.{Block, Inline, InlineBlock, Image, Svg, Text, Map, Area, Group, Shape, Inner}
+use Rattle.box_tree.specs.declared.form.Form.{Form}
+use Rattle.box_tree.specs.declared.form.Form.TheVariants.{Outline, Cover, View, Port as FormPort, MapName}
 use Rattle.box_tree.specs.declared.piece.Piece.{Piece}
 use Rattle.box_tree.specs.declared.viewport.Viewport.{Viewport}
 use Rattle.box_tree.specs.declared.containing.Holder.{Holder}
@@ -64,9 +66,19 @@ padding_side side first last = pos 64 *ℤ int_max (side -ℤ first -ℤ last) (
 abbrev pub no_port : Port
 no_port = record { x = pos 0; y = pos 0; w = pos 0; h = pos 0; view = None }
 
+-- the place and the viewBox of a viewport as a form gives them: an svg is given a viewBox alone, and an svg inside it its
+-- viewport with its viewBox (SVG 2, "The 'viewBox' attribute")
+abbrev pub port_given : Option Form → Port
+port_given None = no_port
+port_given (Some (View view)) = record no_port { view = view }
+port_given (Some (FormPort port)) = port
+port_given (Some (Outline shape)) = no_port
+port_given (Some (Cover area)) = no_port
+port_given (Some (MapName map)) = no_port
+
 -- the place and the viewBox of the viewport that an svg, or an svg inside it, makes in its own space
 abbrev pub port_of : Label → Port
-port_of n = no_port
+port_of n = port_given n.form
 
 -- the sides of that viewport in fine units (SVG 2, "Establishing a new SVG viewport"): those of the padding box of an svg, 0
 -- without a box, and those that an svg inside it is given

@@ -8,12 +8,12 @@ ghost use Rattle.computed_style.specs.Ranges.{IsSide as IsWidth};
 ghost use Rattle.box_tree.specs.Contents.{IsSide, IsValid, has_id};
 ghost use Rattle.box_tree.specs.Edited.{ancestors_below};
 ghost use Rattle.box_tree.specs.Kept.{label_of};
-ghost use Rattle.spaces.specs.Spaces.{disables, is_laid_out, padding_side, port_of, shows, viewport_width, viewport_height};
+ghost use Rattle.spaces.specs.Spaces.{disables, is_laid_out, no_port, padding_side, port_of, shows, viewport_width, viewport_height};
 ghost use Rattle.spaces.specs.Checked.{IsViewOf, has_space_at};
 ghost use Rattle.spaces.specs.Sizes.{HasNumbersInRange};
 
 use crate::factors::{bottom_border, first_box, left_border, right_border, top_border};
-use box_tree::{Kind, Node, Page};
+use box_tree::{Form, Kind, Node, Page};
 use fractions::{Ledger, Steps};
 use view_boxes::{Port, ViewMap, view_box};
 
@@ -119,10 +119,25 @@ fn inner_view(node: &Node) -> ViewMap
 }
 
 // The place and the viewBox of the viewport that a node makes.
-fn port_of(_node: &Node) -> Port
-    ensures value { result ≡ port_of (label_of _node.now) }
+fn port_of(node: &Node) -> Port
+    requires { HasNumbersInRange (label_of node.now) }
+    ensures value { result ≡ port_of (label_of node.now) }
     ensures range { IsPortInRange result }
-    ensures sides { IsWidth 26 result.w × IsWidth 26 result.h }
+{
+    match &node.form {
+        Some(Form::View(view)) => Port {
+            view: *view,
+            ..no_port()
+        },
+        Some(Form::Port(port)) => *port,
+        Some(Form::Outline(_) | Form::Cover(_) | Form::MapName(_)) | None => no_port(),
+    }
+}
+
+// A viewport of sides 0.
+fn no_port() -> Port
+    ensures value { result ≡ no_port }
+    ensures range { IsPortInRange result }
 {
     Port {
         x: 0,
