@@ -55,12 +55,7 @@ fn area_under<L: Ledger>(
 }
 
 // The area at a local point of an image that has a box and names a map.
-fn area_at<L: Ledger>(
-    page: &Page,
-    node: &Node,
-    at: FinePoint,
-    steps: &mut Steps<L>,
-) -> Option<u32>
+fn area_at<L: Ledger>(page: &Page, node: &Node, at: FinePoint, steps: &mut Steps<L>) -> Option<u32>
     requires { HasCurvesInRange (label_of node.now) }
     ensures { result ≡ area_at page.now.contents (label_of node.now) at }
 {

@@ -65,15 +65,21 @@ module _ (P : List Label → Label → Type 0) (id : ℕ) where
         ] in
         elim (cases_lt 0 (occurrences below id)) [
           | inl some ↦
-              let none : occurrences others id ≡ 0 = grind (arith, nat_tests) in
-              (inside.0,
-              (each-with below (n ∷ above) (grind (arith, nat_tests)) inside.1 (λ p found. its p (placed_in-below n below others above id other some ∙ found)),
-              each-with others above (omega (arith, none)) but.1 (λ p found. absurd (let e : None ≡ Some p = sym (placed_in-absent others above id none) ∙ found in cc))))
+              let none : occurrences others id ≡ 0 = grind (arith, nat_tests) in (
+                inside.0,
+                (
+                  each-with below (n ∷ above) (grind (arith, nat_tests)) inside.1 (λ p found. its p (placed_in-below n below others above id other some ∙ found)),
+                  each-with others above (omega (arith, none)) but.1 (λ p found. absurd (let e : None ≡ Some p = sym (placed_in-absent others above id none) ∙ found in cc)),
+                ),
+              )
           | inr few ↦
-              let none : occurrences below id ≡ 0 = omega arith in
-              (inside.0,
-              (each-with below (n ∷ above) (omega (arith, none)) inside.1 (λ p found. absurd (let e : None ≡ Some p = sym (placed_in-absent below (n ∷ above) id none) ∙ found in cc)),
-              each-with others above (grind (arith, nat_tests)) but.1 (λ p found. its p (placed_in-others n below others above id other none ∙ found))))
+              let none : occurrences below id ≡ 0 = omega arith in (
+                inside.0,
+                (
+                  each-with below (n ∷ above) (omega (arith, none)) inside.1 (λ p found. absurd (let e : None ≡ Some p = sym (placed_in-absent below (n ∷ above) id none) ∙ found in cc)),
+                  each-with others above (grind (arith, nat_tests)) but.1 (λ p found. its p (placed_in-others n below others above id other none ∙ found)),
+                ),
+              )
         ]
   ]
 

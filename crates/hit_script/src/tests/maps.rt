@@ -56,6 +56,22 @@ pub const DEEP_SCALES: &[u8] =
 pub const DEEP_SCALES_REPLIES: &[u8] =
     b"node 1\nnode 2\nnode 3\nnode 4\nerr 11 bound\nhit 4 3 2 1\nnode 5\n";
 
+/// A transform of the root, and a move below others, pass the bound for a node further in.
+pub const SCALED_FROM_ABOVE: &[u8] =
+    br#"{"op":"add","parent":0,"at":0,"kind":"block","boxes":[[0,0,0,100,100]],"style":{}}
+{"op":"add","parent":1,"at":0,"kind":"block","boxes":[[0,0,0,100,100]],"style":{"origin":[0,0],"transform":[["matrix",9999,0,0,9999,0,0,10000]]}}
+{"op":"add","parent":2,"at":0,"kind":"block","boxes":[[0,0,0,100,100]],"style":{"origin":[0,0],"transform":[["matrix",9999,0,0,9999,0,0,10000]]}}
+{"op":"add","parent":3,"at":0,"kind":"block","boxes":[[0,0,0,100,100]],"style":{"origin":[0,0],"transform":[["matrix",9999,0,0,9999,0,0,10000]]}}
+{"op":"style","id":1,"style":{"origin":[0,0],"transform":[["matrix",9999,0,0,9999,0,0,10000]]}}
+{"op":"move","id":4,"parent":1,"at":0}
+{"op":"style","id":1,"style":{"origin":[0,0],"transform":[["matrix",9999,0,0,9999,0,0,10000]]}}
+{"op":"move","id":4,"parent":3,"at":0}
+{"op":"hit","x":50,"y":50}
+"#;
+
+pub const SCALED_FROM_ABOVE_REPLIES: &[u8] =
+    b"node 1\nnode 2\nnode 3\nnode 4\nerr 11 bound\nok\nok\nerr 11 bound\nhit 3 2 4 1\n";
+
 /// Products at the bound, 2^44 in the matrix and 2^70 in the translation, and one past it; and one that is small again.
 pub const AT_THE_BOUND: &[u8] =
     br#"{"op":"add","parent":0,"at":0,"kind":"block","boxes":[[0,0,0,100,100]],"style":{}}

@@ -1,5 +1,7 @@
 // Scripts and the replies to them.
-use super::{THREE_BLOCKS, THREE_BLOCKS_REPLIES, areas, assert_replies, maps, painting, scrolls, values};
+use super::{
+    THREE_BLOCKS, THREE_BLOCKS_REPLIES, areas, assert_replies, maps, painting, scrolls, values,
+};
 use std::test::Fail;
 
 const ROOT: &[u8] =
@@ -208,6 +210,7 @@ fn scripts_are_answered(rt: HostRuntime) -> Result<(), Fail> {
         (maps::SINGULAR, maps::SINGULAR_REPLIES),
         (maps::FIXED, maps::FIXED_REPLIES),
         (maps::DEEP_SCALES, maps::DEEP_SCALES_REPLIES),
+        (maps::SCALED_FROM_ABOVE, maps::SCALED_FROM_ABOVE_REPLIES),
         (
             scrolls::FIXED_IN_A_SCROLLED_VIEWPORT,
             scrolls::FIXED_IN_A_SCROLLED_VIEWPORT_REPLIES,

@@ -49,6 +49,9 @@ fn edit_in_turn<L: Ledger>(rt: &impl Abort, alloc: Global, blank: Blank) -> Resu
         assert_eq!(rt; engine.edit(&edit, &mut steps), expected, "below {parent}");
     }
     assert_eq!(rt; engine.page().count(), 2);
+    assert_eq!(rt; engine.page().next_id(), 3);
+    assert!(rt; engine.page().has(1));
+    assert!(rt; within_from(engine.page(), 1));
     assert_eq!(rt; engine.page().viewport().h, 480);
     Ok(())
 }
