@@ -1,8 +1,8 @@
 -- The ancestors of a node of a valid page: each is in the page with the others above it as its ancestors.
 use Rattle.std.proofs.Common.{◌≡◌, ◌⊎◌, ℕ, ◌<◌, List, [], ◌∷◌, length, Option, Some, None, Bool, true, false, if◌then◌else◌, refl, sym, ap, ◌∙◌, subst, inl, inr, arith}
 use Rattle.std.specs.Option.{option_map, option_map_or}
-use Rattle.computed_style.specs.declared.style.Position.{Position}
-use Rattle.computed_style.specs.declared.style.Position.TheVariants.{Static, Relative, Absolute, Fixed}
+use Rattle.box_tree.specs.declared.containing.Wanted.{Wanted}
+use Rattle.box_tree.specs.declared.containing.Wanted.TheVariants.{Container, Positioned, Transformed, Parent}
 use Rattle.box_tree.specs.declared.node.Node.{Node}
 use Rattle.box_tree.specs.declared.containing.Holder.{Holder}
 use Rattle.box_tree.specs.declared.containing.Holder.TheVariants.{Node as HolderNode, Initial}
@@ -10,8 +10,8 @@ use Rattle.box_tree.specs.Forest.{Label, Forest, Placed}
 use Rattle.box_tree.specs.Contents.{Contents, placed_of, node_of, node_at, parent_id, IsValid}
 use Rattle.box_tree.specs.Edited.{ancestors_below}
 use Rattle.box_tree.specs.Kept.{label_of}
-use Rattle.box_tree.specs.Used.{used_position, is_clipping, is_real_context}
-use Rattle.box_tree.specs.Containing.{parent_of, may_hold, outermost, holder_among, holders_among, Standing, containing_block_chain, containing_block, makes_context, clips}
+use Rattle.box_tree.specs.Used.{is_clipping, is_real_context}
+use Rattle.box_tree.specs.Containing.{parent_of, sought, may_hold, outermost, holder_among, holders_among, Standing, containing_block_chain, containing_block, makes_context, clips}
 use Rattle.box_tree.proofs.AddLemmas.{ancestors_below-none}
 use Rattle.box_tree.proofs.PlacedLemmas.{id-placed_in, page-at_places, IsSeenAt, seen_at}
 use Rattle.box_tree.proofs.SubtreeLemmas.{parent_above}
@@ -84,22 +84,22 @@ module _ (page : Contents) (valid : IsValid page) (id : ℕ) (node : Node) (seen
   parent-seen = parent-node_of page node.parent ∙ ap parent_of above-seen
 
   -- one step up
-  pub holder-step : (position : Position) → holder_among position (ancestors_below page id) ≡ (if may_hold position (option_map label_of (node_of page node.parent)) (label_of node) then HolderNode id else holder_among position (ancestors_below page node.parent))
-  holder-step position =
-      ap (holder_among position) ancestors-seen
-      ∙ ap (λ m. if may_hold position (parent_of standing.above) standing.label then HolderNode m else holder_among position standing.above) (id-placed_in page.tree [] id place_is.place place_is.found)
-      ∙ ap (λ (o : Option Label). if may_hold position o standing.label then HolderNode id else holder_among position standing.above) (sym parent-seen)
-      ∙ ap (λ (l : Label). if may_hold position (option_map label_of (node_of page node.parent)) l then HolderNode id else holder_among position standing.above) (sym label-seen)
-      ∙ ap (λ (above : List Label). if may_hold position (option_map label_of (node_of page node.parent)) (label_of node) then HolderNode id else holder_among position above) (sym above-seen)
+  pub holder-step : (wanted : Wanted) → holder_among wanted (ancestors_below page id) ≡ (if may_hold wanted (option_map label_of (node_of page node.parent)) (label_of node) then HolderNode id else holder_among wanted (ancestors_below page node.parent))
+  holder-step wanted =
+      ap (holder_among wanted) ancestors-seen
+      ∙ ap (λ m. if may_hold wanted (parent_of standing.above) standing.label then HolderNode m else holder_among wanted standing.above) (id-placed_in page.tree [] id place_is.place place_is.found)
+      ∙ ap (λ (o : Option Label). if may_hold wanted o standing.label then HolderNode id else holder_among wanted standing.above) (sym parent-seen)
+      ∙ ap (λ (l : Label). if may_hold wanted (option_map label_of (node_of page node.parent)) l then HolderNode id else holder_among wanted standing.above) (sym label-seen)
+      ∙ ap (λ (above : List Label). if may_hold wanted (option_map label_of (node_of page node.parent)) (label_of node) then HolderNode id else holder_among wanted above) (sym above-seen)
 
   pub ancestors-fewer : length (ancestors_below page node.parent) < length (ancestors_below page id)
   ancestors-fewer = rw (above-seen, ancestors-seen) (omega arith)
 
-  pub containing_block-seen : containing_block page id ≡ holder_among (used_position (label_of node)) (ancestors_below page node.parent)
+  pub containing_block-seen : containing_block page id ≡ holder_among (sought (label_of node)) (ancestors_below page node.parent)
   containing_block-seen =
-      ap (λ (o : Option Placed). option_map_or (λ p. holder_among (used_position p.label) p.above) o Initial) place_is.found
-      ∙ ap (λ (l : Label). holder_among (used_position l) standing.above) (sym label-seen)
-      ∙ ap (holder_among (used_position (label_of node))) (sym above-seen)
+      ap (λ (o : Option Placed). option_map_or (λ p. holder_among (sought p.label) p.above) o Initial) place_is.found
+      ∙ ap (λ (l : Label). holder_among (sought l) standing.above) (sym label-seen)
+      ∙ ap (holder_among (sought (label_of node))) (sym above-seen)
 
   pub makes_context-seen : makes_context page id ≡ is_real_context (option_map label_of (node_of page node.parent)) (label_of node)
   makes_context-seen =
@@ -121,37 +121,37 @@ pub record IsHeld (page : Contents) (count : ℕ) (by : Holder) (chain : List St
   pub chain_is : chain ≡ holder ∷ containing_block_chain holder
   pub fewer : length holder.above < count
 
--- no ancestor may hold what has this position, or the chain begins with the nearest that may
-pub held : (page : Contents) (position : Position) (above : List Label) → AreAncestors page above →
-    ((holder_among position above ≡ outermost position) × (holders_among position above ≡ []))
-    ⊎ IsHeld page (length above) (holder_among position above) (holders_among position above)
-held page position [] stand = inl (refl, refl)
-held page position (n ∷ above) stand = by_test (may_hold position (parent_of above) n) (held page position above stand.1)
+-- no ancestor may hold what seeks this, or the chain begins with the nearest that may
+pub held : (page : Contents) (wanted : Wanted) (above : List Label) → AreAncestors page above →
+    ((holder_among wanted above ≡ outermost wanted) × (holders_among wanted above ≡ []))
+    ⊎ IsHeld page (length above) (holder_among wanted above) (holders_among wanted above)
+held page wanted [] stand = inl (refl, refl)
+held page wanted (n ∷ above) stand = by_test (may_hold wanted (parent_of above) n) (held page wanted above stand.1)
   where
     by_test : (holds : Bool) →
-        ((holder_among position above ≡ outermost position) × (holders_among position above ≡ []))
-        ⊎ IsHeld page (length above) (holder_among position above) (holders_among position above) →
-        (((if holds then HolderNode n.id else holder_among position above) ≡ outermost position)
-        × ((if holds then record { label = n; above = above } ∷ holders_among (used_position n) above else holders_among position above) ≡ []))
-        ⊎ IsHeld page (length (n ∷ above)) (if holds then HolderNode n.id else holder_among position above)
-        (if holds then record { label = n; above = above } ∷ holders_among (used_position n) above else holders_among position above)
+        ((holder_among wanted above ≡ outermost wanted) × (holders_among wanted above ≡ []))
+        ⊎ IsHeld page (length above) (holder_among wanted above) (holders_among wanted above) →
+        (((if holds then HolderNode n.id else holder_among wanted above) ≡ outermost wanted)
+        × ((if holds then record { label = n; above = above } ∷ holders_among (sought n) above else holders_among wanted above) ≡ []))
+        ⊎ IsHeld page (length (n ∷ above)) (if holds then HolderNode n.id else holder_among wanted above)
+        (if holds then record { label = n; above = above } ∷ holders_among (sought n) above else holders_among wanted above)
     by_test true rest = inr (record { holder = record { label = n; above = above }; stands = stand.0; holder_is = refl; chain_is = refl; fewer = omega arith })
     by_test false (inl none) = inl none
     by_test false (inr is) = inr (record { holder = is.holder; stands = is.stands; holder_is = is.holder_is; chain_is = is.chain_is; fewer = omega (arith, is.fewer) })
 
-outermost-no_node : (position : Position) (id : ℕ) → outermost position ≡ HolderNode id → ⊥
-outermost-no_node Static id is = cc
-outermost-no_node Relative id is = cc
-outermost-no_node Absolute id is = cc
-outermost-no_node Fixed id is = cc
+outermost-no_node : (wanted : Wanted) (id : ℕ) → outermost wanted ≡ HolderNode id → ⊥
+outermost-no_node Container id is = cc
+outermost-no_node Positioned id is = cc
+outermost-no_node Transformed id is = cc
+outermost-no_node Parent id is = cc
 
 -- what holds a node of the page, by what holds it as a reader is told
 module _ (page : Contents) (valid : IsValid page) (id : ℕ) (node : Node) (seen : node_of page id ≡ Some node) where
   abbrev n : Standing
   n = standing page valid id node seen
 
-  containing_block-standing : containing_block page id ≡ holder_among (used_position n.label) n.above
-  containing_block-standing = ap (λ (o : Option Placed). option_map_or (λ p. holder_among (used_position p.label) p.above) o Initial) (seen_at page id node seen).found
+  containing_block-standing : containing_block page id ≡ holder_among (sought n.label) n.above
+  containing_block-standing = ap (λ (o : Option Placed). option_map_or (λ p. holder_among (sought p.label) p.above) o Initial) (seen_at page id node seen).found
 
   -- a node in whose chain the nearest is the node that holds it
   pub record IsHeldBy (holder : ℕ) : Type 0 where
@@ -162,16 +162,16 @@ module _ (page : Contents) (valid : IsValid page) (id : ℕ) (node : Node) (seen
     pub fewer : length standing_is.above < length n.above
 
   pub held_by : (holder : ℕ) → containing_block page id ≡ HolderNode holder → IsHeldBy holder
-  held_by holder is = elim (held page (used_position n.label) n.above (stand-seen page valid id node seen)) [
-    | inl none ↦ absurd (outermost-no_node (used_position n.label) holder (sym none.0 ∙ sym containing_block-standing ∙ is))
+  held_by holder is = elim (held page (sought n.label) n.above (stand-seen page valid id node seen)) [
+    | inl none ↦ absurd (outermost-no_node (sought n.label) holder (sym none.0 ∙ sym containing_block-standing ∙ is))
     | inr by ↦
         let same : HolderNode by.holder.label.id ≡ HolderNode holder = sym by.holder_is ∙ sym containing_block-standing ∙ is in
         record { standing_is = by.holder; stands = by.stands; id_is = cc; chain_is = by.chain_is; fewer = by.fewer }
   ]
 
   -- a node that no node holds
-  pub unheld : (by : Holder) → containing_block page id ≡ by → ((holder : ℕ) → by ≡ HolderNode holder → ⊥) → (outermost (used_position n.label) ≡ by) × (containing_block_chain n ≡ [])
-  unheld by is no_node = elim (held page (used_position n.label) n.above (stand-seen page valid id node seen)) [
+  pub unheld : (by : Holder) → containing_block page id ≡ by → ((holder : ℕ) → by ≡ HolderNode holder → ⊥) → (outermost (sought n.label) ≡ by) × (containing_block_chain n ≡ [])
+  unheld by is no_node = elim (held page (sought n.label) n.above (stand-seen page valid id node seen)) [
     | inl none ↦ (sym none.0 ∙ sym containing_block-standing ∙ is, none.1)
     | inr there ↦ absurd (no_node there.holder.label.id (sym is ∙ containing_block-standing ∙ there.holder_is))
   ]

@@ -4,7 +4,7 @@ use Rattle.std.specs.Prelude.{ℕ, ◌==◌, nat_le, Bool, true, false, not, ◌
 use Rattle.computed_style.specs.declared.style.Style.{Style}
 use Rattle.computed_style.specs.Defaults.{is_empty}
 use Rattle.box_tree.specs.declared.kind.Kind.{Kind}
-use Rattle.box_tree.specs.declared.kind.Kind.TheVariants.{Block, Inline, InlineBlock, Image, Text}
+use Rattle.box_tree.specs.declared.kind.Kind.TheVariants.{Block, Inline, InlineBlock, Image, Svg, Text, Map, Area, Group, Shape, Inner}
 use Rattle.box_tree.specs.declared.piece.Piece.{Piece}
 use Rattle.box_tree.specs.Forest.{Label}
 
@@ -14,14 +14,54 @@ is_flow Block = true
 is_flow Inline = true
 is_flow InlineBlock = true
 is_flow Image = true
+is_flow Svg = true
 is_flow Text = true
+is_flow Map = true
+is_flow Area = false
+is_flow Group = false
+is_flow Shape = false
+is_flow Inner = false
 
 abbrev pub is_text : Kind → Bool
 is_text Block = false
 is_text Inline = false
 is_text InlineBlock = false
 is_text Image = false
+is_text Svg = false
 is_text Text = true
+is_text Map = false
+is_text Area = false
+is_text Group = false
+is_text Shape = false
+is_text Inner = false
+
+-- what stands in an svg (SVG 2, 1.3 and 8.2): a group, a shape, and an svg inside of the svg
+abbrev pub is_svg_content : Kind → Bool
+is_svg_content Block = false
+is_svg_content Inline = false
+is_svg_content InlineBlock = false
+is_svg_content Image = false
+is_svg_content Svg = false
+is_svg_content Text = false
+is_svg_content Map = false
+is_svg_content Area = false
+is_svg_content Group = true
+is_svg_content Shape = true
+is_svg_content Inner = true
+
+-- an area of an image map (HTML, "Image maps")
+abbrev pub is_area : Kind → Bool
+is_area Block = false
+is_area Inline = false
+is_area InlineBlock = false
+is_area Image = false
+is_area Svg = false
+is_area Text = false
+is_area Map = false
+is_area Area = true
+is_area Group = false
+is_area Shape = false
+is_area Inner = false
 
 -- which kinds a node of a kind may hold as its children; none holds the root, which is a block
 abbrev pub may_hold : Option Kind → Kind → Bool
@@ -31,7 +71,13 @@ may_hold (Some Block) child = is_flow child
 may_hold (Some Inline) child = is_flow child
 may_hold (Some InlineBlock) child = is_flow child
 may_hold (Some Image) child = false
+may_hold (Some Svg) child = is_svg_content child
 may_hold (Some Text) child = false
+may_hold (Some Map) child = is_area child
+may_hold (Some Area) child = false
+may_hold (Some Group) child = is_svg_content child
+may_hold (Some Shape) child = false
+may_hold (Some Inner) child = is_svg_content child
 
 -- the kind of the parent, and none for the root
 abbrev pub parent_kind : List Label → Option Kind
@@ -59,7 +105,13 @@ box_count_suits false Block count = nat_le count 1
 box_count_suits false Inline count = true
 box_count_suits false InlineBlock count = nat_le count 1
 box_count_suits false Image count = nat_le count 1
+box_count_suits false Svg count = nat_le count 1
 box_count_suits false Text count = true
+box_count_suits false Map count = count == 0
+box_count_suits false Area count = count == 0
+box_count_suits false Group count = count == 0
+box_count_suits false Shape count = count == 0
+box_count_suits false Inner count = count == 0
 
 -- whether a node of a kind may be placed
 abbrev pub takes_place : Kind → Bool
@@ -67,7 +119,13 @@ takes_place Block = true
 takes_place Inline = true
 takes_place InlineBlock = true
 takes_place Image = true
+takes_place Svg = true
 takes_place Text = true
+takes_place Map = false
+takes_place Area = false
+takes_place Group = false
+takes_place Shape = false
+takes_place Inner = false
 
 -- whether a node of a kind may be given another style
 abbrev pub takes_style : Kind → Bool
@@ -75,7 +133,13 @@ takes_style Block = true
 takes_style Inline = true
 takes_style InlineBlock = true
 takes_style Image = true
+takes_style Svg = true
 takes_style Text = false
+takes_style Map = false
+takes_style Area = false
+takes_style Group = true
+takes_style Shape = true
+takes_style Inner = true
 
 -- whether a node of a kind may be scrolled
 abbrev pub takes_scroll : Kind → Bool
@@ -83,7 +147,13 @@ takes_scroll Block = true
 takes_scroll Inline = true
 takes_scroll InlineBlock = true
 takes_scroll Image = false
+takes_scroll Svg = false
 takes_scroll Text = false
+takes_scroll Map = false
+takes_scroll Area = false
+takes_scroll Group = false
+takes_scroll Shape = false
+takes_scroll Inner = false
 
 -- with which style a node of a kind may be: one that takes no style has the empty one
 abbrev pub style_suits : Kind → Style → Bool

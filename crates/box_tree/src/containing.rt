@@ -2,14 +2,15 @@
 ghost use Rattle.std.specs.Prelude.{◌≡◌, IsTrue};
 ghost use Rattle.std.specs.Option.{option_map, option_copied};
 ghost use Rattle.box_tree.specs.Contents.{has_id};
-ghost use Rattle.box_tree.specs.Containing.{may_hold, outermost, holder_among, containing_block, makes_context, clips};
+ghost use Rattle.box_tree.specs.Containing.{sought as seeks, sought_as as seeks_as, sought_at as seeks_at, may_hold, outermost, holder_among, containing_block, makes_context, clips};
 ghost use Rattle.box_tree.specs.Edited.{ancestors_below};
 ghost use Rattle.box_tree.specs.Kept.{label_of};
 
+use crate::kind::Kind;
 use crate::node::Node;
 use crate::page::Page;
 use crate::used::{
-    is_block_container, is_clipping, is_positioned, is_real_context, is_transformed, used_position,
+    is_block_container, is_clipping, is_positioned, is_real_context, is_transformed,
 };
 use computed_style::Position;
 
@@ -24,18 +25,32 @@ pub enum Holder {
     Viewport,
 }
 
+/// What a node seeks among its ancestors as its containing block.
+#[derive(Clone, Copy)]
+pub(crate) enum Wanted {
+    /// A block container.
+    Container,
+    /// A positioned or transformed node.
+    Positioned,
+    /// A transformed node.
+    Transformed,
+    /// Its parent.
+    Parent,
+}
+
 impl Page {
     /// The containing block of a node (CSS 2.2, 10.1): for static and relative position and for a text the nearest
     /// ancestor that is a block container, for absolute position the nearest that is positioned or transformed, for fixed
     /// position the nearest that is transformed. Without such an ancestor it is the viewport for fixed position and the
-    /// initial containing block for the others.
+    /// initial containing block for the others. Of SVG content it is the parent (SVG 2, 8.3); so it is said of a map and of
+    /// an area too.
     pub fn containing_block(&self, id: u32) -> Holder
         requires { IsTrue (has_id self.now.contents id) }
         ensures { result ≡ containing_block self.now.contents id }
     {
         self.validity();
         let node = self.find(id).unwrap();
-        self.holder_from(node.parent, used_position(node))
+        self.holder_from(node.parent, sought(node))
     }
 
     /// Whether a node is a real stacking context (CSS 2.2, 9.9.1; CSS Color 3, 3.2; CSS Transforms 1, 3).
@@ -58,40 +73,72 @@ impl Page {
         is_clipping(self.find(node.parent), node)
     }
 
-    // The nearest of a node and its ancestors that may hold what has this position.
-    fn holder_from(&self, id: u32, position: Position) -> Holder
-        ensures { result ≡ holder_among position (ancestors_below self.now.contents id) }
+    // The nearest of a node and its ancestors that may hold what seeks this.
+    fn holder_from(&self, id: u32, wanted: Wanted) -> Holder
+        ensures { result ≡ holder_among wanted (ancestors_below self.now.contents id) }
     {
         self.validity();
         let mut above = id;
         while let Some(node) = self.find(above) {
-            if may_hold(position, self.find(node.parent), node) {
+            if may_hold(wanted, self.find(node.parent), node) {
                 return Holder::Node { id: above };
             }
             above = node.parent;
         }
-        outermost(position)
+        outermost(wanted)
     }
 }
 
-// Whether a node may be the containing block of what has this position.
-fn may_hold(position: Position, parent: Option<&Node>, node: &Node) -> bool
-    ensures { result ≡ may_hold position (option_map label_of (option_copied parent.entry)) (label_of node.now) }
+// What a node seeks as its containing block.
+fn sought(node: &Node) -> Wanted
+    ensures { result ≡ seeks (label_of node.now) }
 {
-    match position {
-        Position::Static | Position::Relative => is_block_container(parent, node),
-        Position::Absolute => is_positioned(parent, node) || is_transformed(parent, node),
-        Position::Fixed => is_transformed(parent, node),
+    sought_as(node.kind, node.style.position)
+}
+
+// What a node of this kind and position seeks.
+fn sought_as(kind: Kind, position: Position) -> Wanted
+    ensures { result ≡ seeks_as kind position }
+{
+    match kind {
+        Kind::Block | Kind::Inline | Kind::InlineBlock | Kind::Image | Kind::Svg => {
+            sought_at(position)
+        }
+        Kind::Text => Wanted::Container,
+        Kind::Map | Kind::Area | Kind::Group | Kind::Shape | Kind::Inner => Wanted::Parent,
     }
 }
 
-// What holds what has this position, where no node may hold it.
-fn outermost(position: Position) -> Holder
-    ensures { result ≡ outermost position }
+// What a CSS node of this position seeks.
+fn sought_at(position: Position) -> Wanted
+    ensures { result ≡ seeks_at position }
 {
     match position {
-        Position::Static | Position::Relative | Position::Absolute => Holder::Initial,
-        Position::Fixed => Holder::Viewport,
+        Position::Static | Position::Relative => Wanted::Container,
+        Position::Absolute => Wanted::Positioned,
+        Position::Fixed => Wanted::Transformed,
+    }
+}
+
+// Whether a node may be the containing block of what seeks this.
+fn may_hold(wanted: Wanted, parent: Option<&Node>, node: &Node) -> bool
+    ensures { result ≡ may_hold wanted (option_map label_of (option_copied parent.entry)) (label_of node.now) }
+{
+    match wanted {
+        Wanted::Container => is_block_container(parent, node),
+        Wanted::Positioned => is_positioned(parent, node) || is_transformed(parent, node),
+        Wanted::Transformed => is_transformed(parent, node),
+        Wanted::Parent => true,
+    }
+}
+
+// What holds what seeks this, where no node may hold it.
+fn outermost(wanted: Wanted) -> Holder
+    ensures { result ≡ outermost wanted }
+{
+    match wanted {
+        Wanted::Container | Wanted::Positioned | Wanted::Parent => Holder::Initial,
+        Wanted::Transformed => Holder::Viewport,
     }
 }
 

@@ -30,7 +30,8 @@ pub use page::Page;
 pub use piece::{Piece, PieceList};
 pub use plan::{Prepared, Undo};
 pub use used::{
-    is_atomic, is_block_container, is_block_level, is_clipping, is_floating, is_in_flow,
-    is_positioned, is_real_context, is_taken_out, is_transformed, stack_level, used_position,
+    has_acting_transform, is_atomic, is_block_container, is_block_level, is_clipping, is_floating,
+    is_in_flow, is_positioned, is_real_context, is_taken_out, is_transformed, stack_level,
+    used_position,
 };
 pub use viewport::Viewport;

@@ -1,7 +1,7 @@
 // What suits which kind of node, row by row as the tables of `specs/Suits.antt` have it.
 ghost use Rattle.std.specs.Prelude.{◌≡◌, None};
 ghost use Rattle.std.specs.Option.{option_copied};
-ghost use Rattle.box_tree.specs.Suits.{is_flow as flows, is_text as names_text, may_hold as holds, box_count_suits as count_suits, takes_place as is_placed, takes_style as is_styled, takes_scroll as is_scrolled, style_suits as suits_style};
+ghost use Rattle.box_tree.specs.Suits.{is_flow as flows, is_text as names_text, is_svg_content as names_svg_content, is_area as names_area, may_hold as holds, box_count_suits as count_suits, takes_place as is_placed, takes_style as is_styled, takes_scroll as is_scrolled, style_suits as suits_style};
 ghost use Rattle.box_tree.specs.SuitsBelow.{kind_suits_below, node_suits_below};
 
 use crate::kind::Kind;
@@ -39,7 +39,9 @@ fn may_hold(parent: Option<Kind>, child: Kind) -> bool
     match parent {
         None => is_block(child),
         Some(Kind::Block | Kind::Inline | Kind::InlineBlock) => is_flow(child),
-        Some(Kind::Image | Kind::Text) => false,
+        Some(Kind::Svg | Kind::Group | Kind::Inner) => is_svg_content(child),
+        Some(Kind::Map) => is_area(child),
+        Some(Kind::Image | Kind::Text | Kind::Area | Kind::Shape) => false,
     }
 }
 
@@ -48,7 +50,16 @@ fn is_block(kind: Kind) -> bool
 {
     match kind {
         Kind::Block => true,
-        Kind::Inline | Kind::InlineBlock | Kind::Image | Kind::Text => false,
+        Kind::Inline
+        | Kind::InlineBlock
+        | Kind::Image
+        | Kind::Svg
+        | Kind::Text
+        | Kind::Map
+        | Kind::Area
+        | Kind::Group
+        | Kind::Shape
+        | Kind::Inner => false,
     }
 }
 
@@ -57,7 +68,14 @@ fn is_flow(kind: Kind) -> bool
     ensures { result ≡ flows kind }
 {
     match kind {
-        Kind::Block | Kind::Inline | Kind::InlineBlock | Kind::Image | Kind::Text => true,
+        Kind::Block
+        | Kind::Inline
+        | Kind::InlineBlock
+        | Kind::Image
+        | Kind::Svg
+        | Kind::Text
+        | Kind::Map => true,
+        Kind::Area | Kind::Group | Kind::Shape | Kind::Inner => false,
     }
 }
 
@@ -66,7 +84,51 @@ fn is_text(kind: Kind) -> bool
 {
     match kind {
         Kind::Text => true,
-        Kind::Block | Kind::Inline | Kind::InlineBlock | Kind::Image => false,
+        Kind::Block
+        | Kind::Inline
+        | Kind::InlineBlock
+        | Kind::Image
+        | Kind::Svg
+        | Kind::Map
+        | Kind::Area
+        | Kind::Group
+        | Kind::Shape
+        | Kind::Inner => false,
+    }
+}
+
+// What stands in an svg.
+pub(crate) fn is_svg_content(kind: Kind) -> bool
+    ensures { result ≡ names_svg_content kind }
+{
+    match kind {
+        Kind::Group | Kind::Shape | Kind::Inner => true,
+        Kind::Block
+        | Kind::Inline
+        | Kind::InlineBlock
+        | Kind::Image
+        | Kind::Svg
+        | Kind::Text
+        | Kind::Map
+        | Kind::Area => false,
+    }
+}
+
+fn is_area(kind: Kind) -> bool
+    ensures { result ≡ names_area kind }
+{
+    match kind {
+        Kind::Area => true,
+        Kind::Block
+        | Kind::Inline
+        | Kind::InlineBlock
+        | Kind::Image
+        | Kind::Svg
+        | Kind::Text
+        | Kind::Map
+        | Kind::Group
+        | Kind::Shape
+        | Kind::Inner => false,
     }
 }
 
@@ -78,8 +140,9 @@ pub(crate) fn box_count_suits(is_root: bool, kind: Kind, count: usize) -> bool
         return count == 1;
     }
     match kind {
-        Kind::Block | Kind::InlineBlock | Kind::Image => count <= 1,
+        Kind::Block | Kind::InlineBlock | Kind::Image | Kind::Svg => count <= 1,
         Kind::Inline | Kind::Text => true,
+        Kind::Map | Kind::Area | Kind::Group | Kind::Shape | Kind::Inner => count == 0,
     }
 }
 
@@ -88,7 +151,9 @@ pub(crate) fn takes_place(kind: Kind) -> bool
     ensures { result ≡ is_placed kind }
 {
     match kind {
-        Kind::Block | Kind::Inline | Kind::InlineBlock | Kind::Image | Kind::Text => true,
+        Kind::Block | Kind::Inline | Kind::InlineBlock | Kind::Image | Kind::Svg | Kind::Text =>
+            true,
+        Kind::Map | Kind::Area | Kind::Group | Kind::Shape | Kind::Inner => false,
     }
 }
 
@@ -97,8 +162,15 @@ pub(crate) fn takes_style(kind: Kind) -> bool
     ensures { result ≡ is_styled kind }
 {
     match kind {
-        Kind::Block | Kind::Inline | Kind::InlineBlock | Kind::Image => true,
-        Kind::Text => false,
+        Kind::Block
+        | Kind::Inline
+        | Kind::InlineBlock
+        | Kind::Image
+        | Kind::Svg
+        | Kind::Group
+        | Kind::Shape
+        | Kind::Inner => true,
+        Kind::Text | Kind::Map | Kind::Area => false,
     }
 }
 
@@ -108,7 +180,14 @@ pub(crate) fn takes_scroll(kind: Kind) -> bool
 {
     match kind {
         Kind::Block | Kind::Inline | Kind::InlineBlock => true,
-        Kind::Image | Kind::Text => false,
+        Kind::Image
+        | Kind::Svg
+        | Kind::Text
+        | Kind::Map
+        | Kind::Area
+        | Kind::Group
+        | Kind::Shape
+        | Kind::Inner => false,
     }
 }
 

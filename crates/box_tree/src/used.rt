@@ -2,14 +2,16 @@
 ghost use Rattle.std.specs.Prelude.{◌≡◌, nat_lt, length};
 ghost use Rattle.std.specs.Option.{option_map, option_copied};
 ghost use Rattle.box_tree.specs.Kept.{label_of};
-ghost use Rattle.box_tree.specs.Used.{cuts_off, has_box, takes_out, takes_offsets, is_fixed_at, position_as, is_block_level_as, is_block_container_as, is_atomic_as, may_make_context, has_context_style};
-ghost use Rattle.box_tree.specs.Used.{used_position, is_taken_out, is_floating, is_block_level, is_block_container, is_atomic, is_transformed, is_clipping, is_positioned, is_real_context, stack_level, is_in_flow};
+ghost use Rattle.box_tree.specs.Used.{cuts_off, has_box, may_float, makes_viewport, takes_out, takes_offsets, is_fixed_at, position_as, is_block_level_as, is_block_container_as, is_atomic_as, may_make_context, has_context_style};
+ghost use Rattle.box_tree.specs.Used.{used_position, is_taken_out, is_floating, is_block_level, is_block_container, is_atomic, is_transformed, has_acting_transform, is_clipping, is_positioned, is_real_context, stack_level, is_in_flow};
 
 use crate::kind::Kind;
 use crate::node::Node;
+use crate::suits::is_svg_content;
 use computed_style::{Overflow, Position};
 
-/// The position that counts: that of its style, and static for a text (CSS 2.2, 9.3.1).
+/// The position that counts: that of its style, and static for a text, for SVG content, for a map and for an area
+/// (CSS 2.2, 9.3.1; SVG 2, 6.7).
 pub fn used_position(node: &Node) -> Position
     ensures { result ≡ used_position (label_of node.now) }
 {
@@ -23,14 +25,14 @@ pub fn is_taken_out(_parent: Option<&Node>, node: &Node) -> bool
     takes_out(used_position(node))
 }
 
-/// Whether a node floats: it is floated, and neither taken out nor the root (CSS 2.2, 9.7).
+/// Whether a node floats: it is floated, and neither taken out nor the root nor SVG content (CSS 2.2, 9.7; SVG 2, 6.7).
 pub fn is_floating(parent: Option<&Node>, node: &Node) -> bool
     ensures { result ≡ is_floating (option_map label_of (option_copied parent.entry)) (label_of node.now) }
 {
     if parent.is_none() {
         return false;
     }
-    node.style.floats && !is_taken_out(parent, node)
+    may_float(node.kind) && (node.style.floats && !is_taken_out(parent, node))
 }
 
 /// Whether a node is block level: the root, a block, and what leaves the flow or is displayed so (CSS 2.2, 9.2.1 and 9.7).
@@ -51,7 +53,7 @@ pub fn is_block_container(parent: Option<&Node>, node: &Node) -> bool
     is_block_container_as(node.kind, is_block_level(parent, node))
 }
 
-/// Whether a node is atomic: an inline-block or an image that isn't block level (CSS 2.2, 9.2.2).
+/// Whether a node is atomic: an inline-block, an image or an svg that isn't block level (CSS 2.2, 9.2.2).
 pub fn is_atomic(parent: Option<&Node>, node: &Node) -> bool
     ensures { result ≡ is_atomic (option_map label_of (option_copied parent.entry)) (label_of node.now) }
 {
@@ -65,15 +67,25 @@ pub fn is_transformed(parent: Option<&Node>, node: &Node) -> bool
     (is_block_level(parent, node) || is_atomic(parent, node)) && has_transform(node)
 }
 
-/// Whether a node clips what it holds: its overflow isn't visible, it has a box, and it is a block container other than the
-/// root (CSS 2.2, 11.1.1).
+/// Whether the transform of a node acts on its space: it is transformed, or it is SVG content whose transform isn't none
+/// (CSS Transforms 1, 2 and 3).
+pub fn has_acting_transform(parent: Option<&Node>, node: &Node) -> bool
+    ensures { result ≡ has_acting_transform (option_map label_of (option_copied parent.entry)) (label_of node.now) }
+{
+    is_transformed(parent, node) || (is_svg_content(node.kind) && has_transform(node))
+}
+
+/// Whether a node clips what it holds: its overflow isn't visible, it has a box, and it is an svg or a block container other
+/// than the root (CSS 2.2, 11.1.1; SVG 2, 3.8).
 pub fn is_clipping(parent: Option<&Node>, node: &Node) -> bool
     ensures { result ≡ is_clipping (option_map label_of (option_copied parent.entry)) (label_of node.now) }
 {
     if parent.is_none() {
         return false;
     }
-    cuts_off(node.style.overflow) && (has_box(node) && is_block_container(parent, node))
+    let viewport = makes_viewport(node.kind);
+    cuts_off(viewport, node.style.overflow)
+        && (has_box(node) && (viewport || is_block_container(parent, node)))
 }
 
 /// Whether a node is positioned: its position isn't static (CSS 2.2, 9.3.2).
@@ -83,8 +95,8 @@ pub fn is_positioned(_parent: Option<&Node>, node: &Node) -> bool
     takes_offsets(used_position(node))
 }
 
-/// Whether a node is a real stacking context: the root, and every other node but a text that is fixed, positioned with an
-/// integer z-index, not wholly opaque, or transformed (CSS 2.2, 9.9.1; CSS Color 3, 3.2; CSS Transforms 1, 3).
+/// Whether a node is a real stacking context: the root, and every other CSS node but a text that is fixed, positioned with
+/// an integer z-index, not wholly opaque, or transformed (CSS 2.2, 9.9.1; CSS Color 3, 3.2; CSS Transforms 1, 3).
 pub fn is_real_context(parent: Option<&Node>, node: &Node) -> bool
     ensures { result ≡ is_real_context (option_map label_of (option_copied parent.entry)) (label_of node.now) }
 {
@@ -117,8 +129,39 @@ fn position_as(kind: Kind, position: Position) -> Position
     ensures { result ≡ position_as kind position }
 {
     match kind {
-        Kind::Block | Kind::Inline | Kind::InlineBlock | Kind::Image => position,
-        Kind::Text => Position::Static,
+        Kind::Block | Kind::Inline | Kind::InlineBlock | Kind::Image | Kind::Svg => position,
+        Kind::Text | Kind::Map | Kind::Area | Kind::Group | Kind::Shape | Kind::Inner => {
+            Position::Static
+        }
+    }
+}
+
+// Whether a node of this kind can float.
+fn may_float(kind: Kind) -> bool
+    ensures { result ≡ may_float kind }
+{
+    match kind {
+        Kind::Block | Kind::Inline | Kind::InlineBlock | Kind::Image | Kind::Svg | Kind::Text =>
+            true,
+        Kind::Map | Kind::Area | Kind::Group | Kind::Shape | Kind::Inner => false,
+    }
+}
+
+// Whether a node of this kind makes a viewport for what is in it.
+fn makes_viewport(kind: Kind) -> bool
+    ensures { result ≡ makes_viewport kind }
+{
+    match kind {
+        Kind::Svg | Kind::Inner => true,
+        Kind::Block
+        | Kind::Inline
+        | Kind::InlineBlock
+        | Kind::Image
+        | Kind::Text
+        | Kind::Map
+        | Kind::Area
+        | Kind::Group
+        | Kind::Shape => false,
     }
 }
 
@@ -132,13 +175,15 @@ fn takes_out(position: Position) -> bool
     }
 }
 
-// Whether an overflow isn't visible.
-fn cuts_off(overflow: Option<Overflow>) -> bool
-    ensures { result ≡ cuts_off overflow }
+// Whether an overflow clips, where a viewport is made or not.
+fn cuts_off(viewport: bool, overflow: Option<Overflow>) -> bool
+    ensures { result ≡ cuts_off viewport overflow }
 {
     match overflow {
-        None | Some(Overflow::Visible) => false,
-        Some(Overflow::Auto | Overflow::Clip) => true,
+        None => viewport,
+        Some(Overflow::Visible) => false,
+        Some(Overflow::Auto) => !viewport,
+        Some(Overflow::Clip) => true,
     }
 }
 
@@ -177,8 +222,8 @@ fn is_block_level_as(kind: Kind, leaves: bool, display_block: bool) -> bool
     match kind {
         Kind::Block => true,
         Kind::Inline | Kind::InlineBlock => leaves,
-        Kind::Image => leaves || display_block,
-        Kind::Text => false,
+        Kind::Image | Kind::Svg => leaves || display_block,
+        Kind::Text | Kind::Map | Kind::Area | Kind::Group | Kind::Shape | Kind::Inner => false,
     }
 }
 
@@ -189,7 +234,14 @@ fn is_block_container_as(kind: Kind, block_level: bool) -> bool
     match kind {
         Kind::Block | Kind::InlineBlock => true,
         Kind::Inline => block_level,
-        Kind::Image | Kind::Text => false,
+        Kind::Image
+        | Kind::Svg
+        | Kind::Text
+        | Kind::Map
+        | Kind::Area
+        | Kind::Group
+        | Kind::Shape
+        | Kind::Inner => false,
     }
 }
 
@@ -198,8 +250,15 @@ fn is_atomic_as(kind: Kind) -> bool
     ensures { result ≡ is_atomic_as kind }
 {
     match kind {
-        Kind::InlineBlock | Kind::Image => true,
-        Kind::Block | Kind::Inline | Kind::Text => false,
+        Kind::InlineBlock | Kind::Image | Kind::Svg => true,
+        Kind::Block
+        | Kind::Inline
+        | Kind::Text
+        | Kind::Map
+        | Kind::Area
+        | Kind::Group
+        | Kind::Shape
+        | Kind::Inner => false,
     }
 }
 
@@ -208,8 +267,8 @@ fn may_make_context(kind: Kind) -> bool
     ensures { result ≡ may_make_context kind }
 {
     match kind {
-        Kind::Block | Kind::Inline | Kind::InlineBlock | Kind::Image => true,
-        Kind::Text => false,
+        Kind::Block | Kind::Inline | Kind::InlineBlock | Kind::Image | Kind::Svg => true,
+        Kind::Text | Kind::Map | Kind::Area | Kind::Group | Kind::Shape | Kind::Inner => false,
     }
 }
 

@@ -1,7 +1,7 @@
 -- The climb begins at the parent of the node that was found.
 use Rattle.std.proofs.Common.{◌≡◌, Some, ap, sym, ◌∙◌}
 use Rattle.std.specs.Option.{option_copied}
-use Rattle.computed_style.specs.declared.style.Position.{Position}
+use Rattle.box_tree.specs.declared.containing.Wanted.{Wanted}
 use Rattle.box_tree.specs.Contents.{node_of}
 use Rattle.box_tree.specs.Containing.{holder_among}
 use Rattle.box_tree.specs.Edited.{ancestors_below}
@@ -14,5 +14,5 @@ returns c =
     let node = c.unwrap-node.result.now in
     let seen : node_of page c.args.id ≡ Some node = sym c.find.ensures ∙ ap option_copied c.unwrap-node.ensures in
     c.holder_from.ensures
-    ∙ ap (λ (position : Position). holder_among position (ancestors_below page node.parent)) c.used_position.ensures
+    ∙ ap (λ (wanted : Wanted). holder_among wanted (ancestors_below page node.parent)) c.sought.ensures
     ∙ sym (containing_block-seen page c.validity.ensures c.args.id node seen)
