@@ -10,7 +10,7 @@ use Rattle.serde_json.specs.Read.{read}
 use Rattle.fractions.specs.declared.rect.Spot.{Spot}
 use Rattle.computed_style.specs.declared.style.Style.{Style}
 use Rattle.box_tree.specs.declared.kind.Kind.{Kind}
-use Rattle.box_tree.specs.declared.kind.Kind.TheVariants.{Block, Inline, InlineBlock, Image, Text}
+use Rattle.box_tree.specs.declared.kind.Kind.TheVariants as kind
 use Rattle.box_tree.specs.declared.piece.Piece.{Piece}
 use Rattle.box_tree.specs.declared.edit.Edit.TheVariants.{Add, Remove, Move, Place, Restyle, Scroll, ScrollView, Resize}
 use Rattle.box_tree.specs.Edited.{IsInRange}
@@ -82,11 +82,17 @@ boxes_of d = as_array d >>= each_box
 
 abbrev pub kind_named : List ℕ → Option Kind
 kind_named name =
-    if bytes_eq name (codes "block") then Some Block
-    else if bytes_eq name (codes "inline") then Some Inline
-    else if bytes_eq name (codes "inline-block") then Some InlineBlock
-    else if bytes_eq name (codes "image") then Some Image
-    else if bytes_eq name (codes "text") then Some Text
+    if bytes_eq name (codes "block") then Some kind.Block
+    else if bytes_eq name (codes "inline") then Some kind.Inline
+    else if bytes_eq name (codes "inline-block") then Some kind.InlineBlock
+    else if bytes_eq name (codes "image") then Some kind.Image
+    else if bytes_eq name (codes "svg") then Some kind.Svg
+    else if bytes_eq name (codes "text") then Some kind.Text
+    else if bytes_eq name (codes "map") then Some kind.Map
+    else if bytes_eq name (codes "area") then Some kind.Area
+    else if bytes_eq name (codes "group") then Some kind.Group
+    else if bytes_eq name (codes "shape") then Some kind.Shape
+    else if bytes_eq name (codes "inner") then Some kind.Inner
     else None
 
 -- the parent, the place and the kind of a new node

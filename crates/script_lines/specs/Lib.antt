@@ -1,7 +1,10 @@
+pub mod Areas
 pub mod Blank
 pub mod Command
 pub mod Inherited
 pub mod Numbers
 pub mod Reply
+pub mod Shapes
 pub mod Style
 pub mod Transform
+pub mod Views

@@ -5,13 +5,16 @@
 //! `itoa` for numbers, on `box_tree` for edits and their faults, on `mouse_events` for events, and on `fractions` for points.
 #![tactic(auto)]
 
+mod areas;
 mod command;
 mod inherited;
 mod reply;
 mod rows;
+mod shapes;
 mod style;
 mod transform;
 mod values;
+mod views;
 
 pub use command::{Command, LONGEST_LINE, LineFault, command_of, is_blank};
 pub use reply::{OutOfMemory, Reply, print};

@@ -196,7 +196,13 @@ pub(crate) fn kind_from(found: Option<&Value>) -> Option<Kind>
         "inline" => Some(Kind::Inline),
         "inline-block" => Some(Kind::InlineBlock),
         "image" => Some(Kind::Image),
+        "svg" => Some(Kind::Svg),
         "text" => Some(Kind::Text),
+        "map" => Some(Kind::Map),
+        "area" => Some(Kind::Area),
+        "group" => Some(Kind::Group),
+        "shape" => Some(Kind::Shape),
+        "inner" => Some(Kind::Inner),
         _ => None,
     }
 }

@@ -1,0 +1,54 @@
+-- Items in twos, as a loop takes them.
+use Rattle.std.proofs.Common.{◌≡◌, ℕ, zero, suc, ◌+◌, ◌*◌, ◌%◌, ◌<◌, ◌≤◌, List, [], ◌∷◌, ◌++◌, length, drop, get_or, Option, Some, None, option_map, refl, sym, ap, ◌∙◌, append_assoc, length-drop, arith}
+use Rattle.std.specs.Option.{option_and_then}
+use Rattle.std.proofs.lemmas.List.{at_drop_more}
+use Rattle.serde_json.specs.View.{view, items_view}
+use Rattle.serde_json.specs.declared.value.Value.{Value}
+use Rattle.poly_shapes.specs.declared.point.Point.{Point}
+use Rattle.script_lines.specs.Shapes.{point_at, each_point}
+
+always-none : {A B : Type 0} (o : Option A) → option_and_then (λ (a : A). None {A = B}) o ≡ None
+always-none None = refl
+always-none (Some a) = refl
+
+-- an odd number of items is no points
+pub points-odd : (vs : List Value) → length vs % 2 ≡ 1 → each_point (items_view vs) ≡ None
+points-odd [] odd = absurd (omega arith)
+points-odd (v ∷ []) odd = refl
+points-odd (v ∷ w ∷ vs) odd =
+    ap (λ o. option_and_then (λ p. option_and_then (λ ps. Some (p ∷ ps)) o) (point_at (view v) (view w))) (points-odd vs (omega arith))
+    ∙ always-none (point_at (view v) (view w))
+
+module _ (vs : List Value) (k : ℕ) (d e : Value) (within : 2 * k + 1 < length vs) where
+  abbrev rest : Option (List Point)
+  rest = each_point (items_view (drop (2 * (k + 1)) vs))
+
+  points-drop : each_point (items_view (drop (2 * k) vs)) ≡ option_and_then (λ p. option_and_then (λ ps. Some (p ∷ ps)) rest) (point_at (view (get_or vs (2 * k) d)) (view (get_or vs (2 * k + 1) e)))
+  points-drop =
+      let two_more : 2 * k + 1 + 1 ≡ 2 * (k + 1) = omega arith in
+      at_drop_more (λ some. each_point (items_view some)) vs (2 * k) d (omega arith)
+      ∙ at_drop_more (λ some. each_point (items_view (get_or vs (2 * k) d ∷ some))) vs (2 * k + 1) e within
+      ∙ ap (λ i. each_point (items_view (get_or vs (2 * k) d ∷ get_or vs (2 * k + 1) e ∷ drop i vs))) two_more
+
+  -- one step of the loop
+  pub points-step : (done : List Point) (p : Point) → point_at (view (get_or vs (2 * k) d)) (view (get_or vs (2 * k + 1) e)) ≡ Some p →
+      option_map (λ more. (done ++ p ∷ []) ++ more) rest ≡ option_map (λ more. done ++ more) (each_point (items_view (drop (2 * k) vs)))
+  points-step done p is =
+      by_rest rest
+      ∙ ap (λ o. option_map (λ more. done ++ more) (option_and_then (λ q. option_and_then (λ ps. Some (q ∷ ps)) rest) o)) (sym is)
+      ∙ ap (option_map (λ more. done ++ more)) (sym points-drop)
+    where
+      by_rest : (o : Option (List Point)) → option_map (λ more. (done ++ p ∷ []) ++ more) o ≡ option_map (λ more. done ++ more) (option_and_then (λ ps. Some (p ∷ ps)) o)
+      by_rest None = refl
+      by_rest (Some ps) = ap (λ (all : List Point). Some all) (append_assoc done (p ∷ []) ps)
+
+  pub points-stop : point_at (view (get_or vs (2 * k) d)) (view (get_or vs (2 * k + 1) e)) ≡ None → each_point (items_view (drop (2 * k) vs)) ≡ None
+  points-stop is = points-drop ∙ ap (λ o. option_and_then (λ q. option_and_then (λ ps. Some (q ∷ ps)) rest) o) is
+
+-- at its end no two items are left
+points-short : (vs : List Value) → length vs ≡ 0 → each_point (items_view vs) ≡ Some []
+points-short [] none = refl
+points-short (v ∷ vs) none = absurd (omega arith)
+
+pub points-end : (vs : List Value) (k : ℕ) → length vs ≤ 2 * k → each_point (items_view (drop (2 * k) vs)) ≡ Some []
+points-end vs k all = points-short (drop (2 * k) vs) (simp length-drop (omega arith))
