@@ -14,6 +14,7 @@ use Rattle.box_tree.specs.declared.edit.EditFault.{EditFault}
 use Rattle.box_tree.specs.Forest.{Label, Forest, End, Grow, roots_of, node_count, occurrences}
 use Rattle.box_tree.specs.Contents.{Contents, node_at, node_of, has_id, depth_below, new_label, IsSuited, IsGiven, IsValid}
 use Rattle.box_tree.specs.Suits.{has_no_parent, kind_suits, box_count_suits, style_suits}
+use Rattle.box_tree.specs.Forms.{form_vertices}
 use Rattle.box_tree.specs.Totals.{box_count}
 use Rattle.box_tree.specs.Edited.{IsAddInRange, first_of, faults_of, first_fault, put_below, ancestors_below, child_count}
 use Rattle.box_tree.specs.Kept.{with_children, IsKept}
@@ -116,6 +117,7 @@ module _ (page : Contents) (valid : IsValid page) (parent at : ℕ) (kind : Kind
     style_in_range = in_range.style_in_range;
     box_count = may.few;
     in_range = in_range.boxes_in_range;
+    formed = record { suits = refl; in_range = tt; vertices = omega arith };
     anchor = record { x = (omega arith, omega arith); y = (omega arith, omega arith) };
     scroll = unscrolled;
   }
@@ -130,6 +132,7 @@ module _ (page : Contents) (valid : IsValid page) (parent at : ℕ) (kind : Kind
     depth = omega arith;
     nodes = omega arith;
     boxes = omega (arith, may.total);
+    vertices = omega arith;
     next = (omega arith, omega (arith, may.next));
     viewport = valid.viewport;
   }
@@ -146,6 +149,7 @@ module _ (page : Contents) (valid : IsValid page) (parent at : ℕ) (kind : Kind
         depth = omega (arith, height-put_below page.tree [] parent at label End 256 once (omega (arith, valid.depth)) (omega (arith, may.depth)));
         nodes = rw (node_count-put_below page.tree parent at label End once) (omega (arith, may.nodes));
         boxes = rw (total-put_below (λ n. length n.boxes) page.tree parent at label End once) (omega (arith, may.total));
+        vertices = rw (total-put_below (λ n. form_vertices n.form) page.tree parent at label End once) (omega (arith, valid.vertices));
         next = (omega arith, omega (arith, may.next));
         viewport = valid.viewport;
       }

@@ -8,7 +8,7 @@ use Rattle.std.proofs.lemmas.Bool.{cases_eq}
 use Rattle.std.proofs.lemmas.Bool.Decides.{nat_tests}
 use Rattle.box_tree.specs.declared.node.Node.{Node}
 use Rattle.box_tree.specs.declared.plan.Change.{Change}
-use Rattle.box_tree.specs.declared.plan.Change.TheVariants.{Layout, Style, Scroll}
+use Rattle.box_tree.specs.declared.plan.Change.TheVariants.{Layout, Style, Form, Scroll}
 use Rattle.box_tree.specs.declared.plan.Relocation.{Relocation}
 use Rattle.box_tree.specs.Change.{changed}
 use Rattle.box_tree.specs.Kept.{node_with, with_children, with_label}
@@ -48,6 +48,7 @@ changed_by old taken new id node node' change found takes count room ids node_is
 pub id-changed : (c : Change) (n : Node) → (with_label (changed c) n).id ≡ n.id
 id-changed (Layout l) n = refl
 id-changed (Style s) n = refl
+id-changed (Form f) n = refl
 id-changed (Scroll s) n = refl
 
 -- the numbers from a place on begin with that at the place

@@ -6,7 +6,7 @@ use Rattle.std.proofs.lemmas.Bool.{cases_eq}
 use Rattle.std.proofs.lemmas.Bool.Decides.{nat_tests}
 use Rattle.box_tree.specs.declared.node.Node.{Node}
 use Rattle.box_tree.specs.declared.plan.Change.{Change}
-use Rattle.box_tree.specs.declared.plan.Change.TheVariants.{Layout, Style, Scroll}
+use Rattle.box_tree.specs.declared.plan.Change.TheVariants.{Layout, Style, Form, Scroll}
 use Rattle.box_tree.specs.declared.plan.Relocation.{Relocation}
 use Rattle.box_tree.specs.Change.{changed, given_up}
 use Rattle.box_tree.specs.Kept.{node_with, label_of, with_children, with_label}
@@ -80,6 +80,7 @@ change-back id change had look had_is k = changed-back id (with_label (changed c
     goes : (c : Change) (n : Node) → had ≡ given_up c (label_of n) → with_label (changed had) (with_label (changed c) n) ≡ n
     goes (Layout l) n is = rw is refl
     goes (Style s) n is = rw is refl
+    goes (Form f) n is = rw is refl
     goes (Scroll s) n is = rw is refl
 
 -- a node that gets one more child

@@ -5,7 +5,7 @@ use Rattle.box_tree.specs.declared.node.Node.{Node}
 use Rattle.box_tree.specs.Forest.{Forest, End, Grow, roots_of, node_count}
 use Rattle.box_tree.specs.Contents.{Contents, origin, empty_page, IsScrolled}
 use Rattle.box_tree.specs.declared.plan.Frame.{Frame}
-use Rattle.box_tree.specs.Totals.{box_count}
+use Rattle.box_tree.specs.Totals.{sums_in}
 use Rattle.box_tree.specs.Counted.{IsCounted}
 use Rattle.box_tree.specs.Nodes.{NodesState}
 use Rattle.box_tree.specs.Kept.{node_with, grown, levels_at_most, page_of, IsKept}
@@ -29,23 +29,23 @@ kept-page_of look first page kept = subst (IsKept look first) (sym (page_of-kept
 
 -- counted nodes mean the page that they are counted for, and they are those of the page that they mean
 pub record Means (nodes : NodesState) (frame : Frame) (page : Contents) : Type 0 where
-  pub counted : IsCounted nodes frame.root frame.boxes (page_of (node_with nodes.nodes) frame.root frame.viewport frame.next)
+  pub counted : IsCounted nodes frame.root frame.sums (page_of (node_with nodes.nodes) frame.root frame.viewport frame.next)
   pub is : page_of (node_with nodes.nodes) frame.root frame.viewport frame.next ≡ page
 
-pub means : (nodes : NodesState) (frame : Frame) (page : Contents) → IsCounted nodes frame.root frame.boxes page → frame.viewport ≡ page.viewport → frame.next ≡ page.next → Means nodes frame page
+pub means : (nodes : NodesState) (frame : Frame) (page : Contents) → IsCounted nodes frame.root frame.sums page → frame.viewport ≡ page.viewport → frame.next ≡ page.next → Means nodes frame page
 means nodes frame page counted viewport next =
     let is : page_of (node_with nodes.nodes) frame.root frame.viewport frame.next ≡ page =
     ap (λ v. page_of (node_with nodes.nodes) frame.root v frame.next) viewport
     ∙ ap (page_of (node_with nodes.nodes) frame.root page.viewport) next
     ∙ page_of-kept (node_with nodes.nodes) frame.root page counted.kept in
-    record { counted = subst (IsCounted nodes frame.root frame.boxes) (sym is) counted; is = is }
+    record { counted = subst (IsCounted nodes frame.root frame.sums) (sym is) counted; is = is }
 
 -- more room changes nothing
-pub counted-reserved : (nodes new : NodesState) (frame : Frame) → new.nodes ≡ nodes.nodes → nodes.room ≤ new.room → nodes.ids ≤ new.ids → IsCounted nodes frame.root frame.boxes (page_of (node_with nodes.nodes) frame.root frame.viewport frame.next) → IsCounted new frame.root frame.boxes (page_of (node_with new.nodes) frame.root frame.viewport frame.next)
+pub counted-reserved : (nodes new : NodesState) (frame : Frame) → new.nodes ≡ nodes.nodes → nodes.room ≤ new.room → nodes.ids ≤ new.ids → IsCounted nodes frame.root frame.sums (page_of (node_with nodes.nodes) frame.root frame.viewport frame.next) → IsCounted new frame.root frame.sums (page_of (node_with new.nodes) frame.root frame.viewport frame.next)
 counted-reserved nodes new frame same room ids counted = record {
   kept = subst (λ (ns : List Node). IsKept (node_with ns) frame.root (page_of (node_with ns) frame.root frame.viewport frame.next)) (sym same) counted.kept;
   count = subst (λ (ns : List Node). length ns ≡ node_count (page_of (node_with ns) frame.root frame.viewport frame.next).tree) (sym same) counted.count;
-  boxes_are = subst (λ (ns : List Node). frame.boxes ≡ box_count (page_of (node_with ns) frame.root frame.viewport frame.next).tree) (sym same) counted.boxes_are;
+  sums_are = subst (λ (ns : List Node). frame.sums ≡ sums_in (page_of (node_with ns) frame.root frame.viewport frame.next).tree) (sym same) counted.sums_are;
   fits = omega (arith, counted.fits, room, ap (λ (ns : List Node). length ns) same);
   placed = λ id positive below. omega (arith, counted.placed id positive below, ids);
 }
@@ -69,6 +69,7 @@ empty-kept w h width height = record {
     depth = omega arith;
     nodes = omega arith;
     boxes = omega arith;
+    vertices = omega arith;
     next = (omega arith, omega arith);
     viewport = record {
       width = width;

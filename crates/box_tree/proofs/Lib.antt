@@ -17,6 +17,7 @@ pub mod MoveLemmas
 pub mod PlaceLemmas
 pub mod BoxLemmas
 pub mod ContainingLemmas
+pub mod ReshapeLemmas
 pub mod RestyleLemmas
 pub mod ScrollLemmas
 pub mod ChangeLemmas

@@ -18,7 +18,8 @@ use Rattle.box_tree.specs.Forest.{Label, Forest, End, Grow, roots_of, ids_in, no
 use Rattle.box_tree.specs.Contents.{Contents, node_at, node_of, placed_of, tree_of, has_id, parent_id, IsGiven, IsSuited, IsValid}
 use Rattle.box_tree.specs.Counted.{IsCounted}
 use Rattle.box_tree.specs.Suits.{has_no_parent, kind_suits, box_count_suits}
-use Rattle.box_tree.specs.Totals.{box_count}
+use Rattle.box_tree.specs.Totals.{box_count, vertex_count, sums_in}
+use Rattle.box_tree.specs.Forms.{form_vertices}
 use Rattle.box_tree.specs.Edited.{kind_may_move, taken_out, put_below, moved, edited, page_without, is_root, ancestors_below, child_count, first_fault, faults_of}
 use Rattle.box_tree.specs.Kept.{node_with, with_children, IsKept}
 use Rattle.box_tree.specs.Nodes.{NodesState, changed_at, HasSameRoom}
@@ -33,7 +34,7 @@ use Rattle.box_tree.proofs.PlanLemmas.{state_of, Carries, carries}
 use Rattle.box_tree.proofs.SubtreeLemmas.{Head, Deeper, Beside, found_in, IsAbove, parent_above, placed-at_places, is_among-ids_in}
 use Rattle.box_tree.proofs.TakenLemmas.{height-taken_out, each-taken_out, roots-taken_out, length-ids_without, place_without, placed_in-taken_out, occurrences-parted, node_count-parted}
 use Rattle.box_tree.proofs.RemoveLemmas.{node_at-without, other_node, placed_below}
-use Rattle.box_tree.proofs.TotalLemmas.{total-put_below, total-parted}
+use Rattle.box_tree.proofs.TotalLemmas.{same_sums, total-put_below, total-parted}
 
 -- a move without a fault
 pub record MayMove (page : Contents) (id parent at : ℕ) : Type 0 where
@@ -201,6 +202,7 @@ module _ (page : Contents) (valid : IsValid page) (id parent at : ℕ) (q : Plac
         style_in_range = suited.style_in_range;
         box_count = suited.box_count;
         in_range = suited.in_range;
+        formed = suited.formed;
         anchor = suited.anchor;
         scroll = suited.scroll;
       }
@@ -213,6 +215,10 @@ module _ (page : Contents) (valid : IsValid page) (id parent at : ℕ) (q : Plac
   pub boxes_stay : box_count (put_below parent at q.label q.below rest) ≡ box_count page.tree
   boxes_stay = omega (arith, total-put_below (λ n. length n.boxes) rest parent at q.label q.below once, total-parted (λ n. length n.boxes) page.tree [] id (valid.distinct id), ap box_count tree_is)
 
+  -- as many vertices
+  pub vertices_stay : vertex_count (put_below parent at q.label q.below rest) ≡ vertex_count page.tree
+  vertices_stay = omega (arith, total-put_below (λ n. form_vertices n.form) rest parent at q.label q.below once, total-parted (λ n. form_vertices n.form) page.tree [] id (valid.distinct id), ap vertex_count tree_is)
+
   -- and as many nodes
   pub nodes_stay : node_count (put_below parent at q.label q.below rest) ≡ node_count page.tree
   nodes_stay = node_count-put_below rest parent at q.label q.below once ∙ omega (arith, node_count-parted page.tree [] id (valid.distinct id), ap node_count tree_is)
@@ -222,10 +228,11 @@ module _ (page : Contents) (valid : IsValid page) (id parent at : ℕ) (q : Plac
     one_tree = rw (roots-put_below rest parent at q.label q.below, roots-taken_out page.tree id) (omega (arith, length-ids_without (roots_of page.tree) id, valid.one_tree));
     distinct = λ k. rw (occurrences-put_below rest parent at q.label q.below k once) (omega (arith, parted k, valid.distinct k));
     given = each-put_below (IsGiven page.next) rest [] parent at q.label q.below once (each-taken_out (IsGiven page.next) page.tree [] id valid.given) (elsewhere (IsGiven page.next) (λ m a b above above' n given. record { positive = given.positive; below_next = given.below_next }) (λ given. record { positive = given.positive; below_next = given.below_next }) valid.given);
-    suited = each-put_below IsSuited rest [] parent at q.label q.below once (each-taken_out IsSuited page.tree [] id valid.suited) (elsewhere IsSuited (λ m a b above above' n suited. record { kind = suited.kind; boxes = suited.boxes; style = suited.style; style_in_range = suited.style_in_range; box_count = suited.box_count; in_range = suited.in_range; anchor = suited.anchor; scroll = suited.scroll }) suited_there valid.suited);
+    suited = each-put_below IsSuited rest [] parent at q.label q.below once (each-taken_out IsSuited page.tree [] id valid.suited) (elsewhere IsSuited (λ m a b above above' n suited. record { kind = suited.kind; boxes = suited.boxes; style = suited.style; style_in_range = suited.style_in_range; box_count = suited.box_count; in_range = suited.in_range; formed = suited.formed; anchor = suited.anchor; scroll = suited.scroll }) suited_there valid.suited);
     depth = omega (arith, height-put_below rest [] parent at q.label q.below 256 once (omega (arith, height-taken_out page.tree id, valid.depth)) (omega (arith, may.depth, ap (λ (a : List Label). length a) ancestors_are, ap height_of tree_is)));
     nodes = rw (node_count-put_below rest parent at q.label q.below once) (omega (arith, valid.nodes, node_count-parted page.tree [] id (valid.distinct id), ap node_count tree_is));
     boxes = rw boxes_stay valid.boxes;
+    vertices = rw vertices_stay valid.vertices;
     next = valid.next;
     viewport = valid.viewport;
   }
@@ -568,7 +575,7 @@ length-others page valid id parent there apart =
     by_place (Some p) = ap (λ (ids : List ℕ). length ids) (sym (roots-taken_out p.below id))
 
 -- a planned move
-module _ (nodes : NodesState) (frame : Frame) (counted : IsCounted nodes frame.root frame.boxes (state_of nodes frame).contents) (r : Relocation) (siblings children ids : List ℕ) where
+module _ (nodes : NodesState) (frame : Frame) (counted : IsCounted nodes frame.root frame.sums (state_of nodes frame).contents) (r : Relocation) (siblings children ids : List ℕ) where
   abbrev page' : Contents
   page' = (state_of nodes frame).contents
 
@@ -602,7 +609,7 @@ module _ (nodes : NodesState) (frame : Frame) (counted : IsCounted nodes frame.r
       (rw edited_is kept)
       (rw edited_is (record {
         count = omega (arith, count, counted.count, count_is);
-        boxes = counted.boxes_are ∙ sym (boxes_stay page valid id parent at q placed.found may);
+        sums = counted.sums_are ∙ sym (same_sums (sums_in after.tree) (sums_in page.tree) (boxes_stay page valid id parent at q placed.found may) (vertices_stay page valid id parent at q placed.found may));
         viewport = refl;
         next = refl;
         fits = omega (arith, count, counted.fits, same_room.room);

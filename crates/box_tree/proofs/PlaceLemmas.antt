@@ -19,7 +19,8 @@ use Rattle.box_tree.specs.Contents.{Contents, node_at, node_of, placed_of, has_i
 use Rattle.box_tree.specs.Counted.{IsCounted}
 use Rattle.box_tree.specs.declared.kind.Kind.{Kind}
 use Rattle.box_tree.specs.Suits.{has_no_parent, kind_suits, box_count_suits, takes_place}
-use Rattle.box_tree.specs.Totals.{box_count}
+use Rattle.box_tree.specs.Totals.{box_count, vertex_count}
+use Rattle.box_tree.specs.Forms.{form_vertices}
 use Rattle.box_tree.specs.Edited.{IsPlaceInRange, kind_may_be_placed, relabelled, clamped_to, laid_out, resized, first_fault, faults_of}
 use Rattle.box_tree.specs.Kept.{with_label, IsKept}
 use Rattle.box_tree.specs.Nodes.{NodesState, changed_at}
@@ -29,6 +30,7 @@ use Rattle.box_tree.proofs.KeptLemmas.{changed-here, changed-other}
 use Rattle.box_tree.proofs.AddLemmas.{none_holds, both_true, not_false}
 use Rattle.box_tree.proofs.PlacedLemmas.{AreAtPlaces, page-at_places, id-node_of}
 use Rattle.box_tree.proofs.PlanLemmas.{state_of, Carries, carries}
+use Rattle.box_tree.proofs.TotalLemmas.{total-relabelled-same}
 
 -- trees with another label for one node, which keeps its id
 module _ (id : ℕ) (change : Label → Label) (keeps : (n : Label) → (change n).id ≡ n.id) where
@@ -92,7 +94,7 @@ module _ (id : ℕ) (change : Label → Label) (keeps : (n : Label) → (change 
   each-relabelled page P Q follows (Grow n below others) above known each =
       (follows n above below known.0 each.0, (each-relabelled page P Q follows below (n ∷ above) known.1.0 each.1.0, each-relabelled page P Q follows others above known.1.1 each.1.1))
 
-  module _ (page : Contents) (valid : IsValid page) (keeps_kind : (n : Label) → (change n).kind ≡ n.kind) (few : box_count (relabelled id change page.tree) ≤ 262144) (suits : (p : Placed) → placed_of page id ≡ Some p → IsSuited p.above p.label → IsSuited p.above (change p.label)) where
+  module _ (page : Contents) (valid : IsValid page) (keeps_kind : (n : Label) → (change n).kind ≡ n.kind) (few : box_count (relabelled id change page.tree) ≤ 262144) (few' : vertex_count (relabelled id change page.tree) ≤ 1048576) (suits : (p : Placed) → placed_of page id ≡ Some p → IsSuited p.above p.label → IsSuited p.above (change p.label)) where
     abbrev new_page : Contents
     new_page = record page { tree = relabelled id change page.tree }
 
@@ -132,6 +134,7 @@ module _ (id : ℕ) (change : Label → Label) (keeps : (n : Label) → (change 
           style_in_range = s.style_in_range;
           box_count = s.box_count;
           in_range = s.in_range;
+          formed = s.formed;
           anchor = s.anchor;
           scroll = s.scroll;
         }
@@ -145,6 +148,7 @@ module _ (id : ℕ) (change : Label → Label) (keeps : (n : Label) → (change 
       depth = rw (height-relabelled page.tree) valid.depth;
       nodes = rw (node_count-relabelled page.tree) valid.nodes;
       boxes = few;
+      vertices = few';
       next = valid.next;
       viewport = valid.viewport;
     }
@@ -221,6 +225,7 @@ suited-laid_out page id anchor boxes max range may q found suited = record {
   style_in_range = suited.style_in_range;
   box_count = may.few;
   in_range = range.boxes_in_range;
+  formed = suited.formed;
   anchor = range.anchor_in_range;
   scroll = scrolled-clamped max q.label.scroll range.max_in_range;
 }
@@ -229,12 +234,13 @@ pub kept-placed : (page : Contents) (id : ℕ) (anchor : Spot) (boxes : List Pie
     option_map make (node_of page id) ≡ option_map (with_label (laid_out anchor boxes max)) (node_of page id) → ((k : ℕ) → look' k ≡ changed_at id make k (look k)) →
     IsKept look' first (record page { tree = relabelled id (laid_out anchor boxes max) page.tree })
 kept-placed page id anchor boxes max first look look' make range may kept makes known =
-    kept-relabelled id (laid_out anchor boxes max) (λ n. refl) page kept.valid (λ n. refl) may.total (suited-laid_out page id anchor boxes max range may) first look look' make kept makes known
+    let few' : vertex_count (relabelled id (laid_out anchor boxes max) page.tree) ≤ 1048576 = omega (arith, total-relabelled-same (λ n. form_vertices n.form) id (laid_out anchor boxes max) (λ n. refl) page.tree, kept.valid.vertices) in
+    kept-relabelled id (laid_out anchor boxes max) (λ n. refl) page kept.valid (λ n. refl) may.total few' (suited-laid_out page id anchor boxes max range may) first look look' make kept makes known
 
 -- a planned resize: the nodes stay
-pub planned-resize : (nodes : NodesState) (frame frame' : Frame) (w h : ℤ) (max : Spot) (edit : Edit) → IsCounted nodes frame.root frame.boxes (state_of nodes frame).contents → IsPlanned (ResizeViewport w h max) edit (state_of nodes frame) →
-    frame'.boxes ≡ frame.boxes → frame'.root ≡ frame.root → frame'.viewport ≡ resized w h max frame.viewport → frame'.next ≡ frame.next → Carries nodes frame' Untouched (state_of nodes frame) edit
-planned-resize nodes frame frame' w' h' max' (Resize w h max) counted planned boxes_is root_is viewport_is next_is =
+pub planned-resize : (nodes : NodesState) (frame frame' : Frame) (w h : ℤ) (max : Spot) (edit : Edit) → IsCounted nodes frame.root frame.sums (state_of nodes frame).contents → IsPlanned (ResizeViewport w h max) edit (state_of nodes frame) →
+    frame'.sums ≡ frame.sums → frame'.root ≡ frame.root → frame'.viewport ≡ resized w h max frame.viewport → frame'.next ≡ frame.next → Carries nodes frame' Untouched (state_of nodes frame) edit
+planned-resize nodes frame frame' w' h' max' (Resize w h max) counted planned sums_is root_is viewport_is next_is =
     let page = (state_of nodes frame).contents in
     let plan = planned.plan_is in
     let range = planned.in_range in
@@ -248,6 +254,7 @@ planned-resize nodes frame frame' w' h' max' (Resize w h max) counted planned bo
       depth = kept.valid.depth;
       nodes = kept.valid.nodes;
       boxes = kept.valid.boxes;
+      vertices = kept.valid.vertices;
       next = kept.valid.next;
       viewport = record { width = range.width; height = range.height; scroll = scrolled-clamped max page.viewport.scroll range.max_in_range };
     } in
@@ -255,7 +262,7 @@ planned-resize nodes frame frame' w' h' max' (Resize w h max) counted planned bo
     (rw root_is (record { valid = valid; looked_up = kept.looked_up; root = kept.root }))
     (record {
       count = counted.count;
-      boxes = boxes_is ∙ counted.boxes_are;
+      sums = sums_is ∙ counted.sums_are;
       viewport = viewport_is ∙ ap (λ x. resized x h' max' page.viewport) plan.width_is ∙ ap (λ x. resized w x max' page.viewport) plan.height_is ∙ ap (λ x. resized w h x page.viewport) plan.max_is;
       next = next_is;
       fits = counted.fits;
@@ -269,4 +276,4 @@ planned-resize nodes frame frame' w' h' max' (Resize w h max) counted planned bo
       next = omega arith;
     })
     refl
-planned-resize nodes frame frame' w' h' max' edit counted planned boxes_is root_is viewport_is next_is = absurd planned.plan_is
+planned-resize nodes frame frame' w' h' max' edit counted planned sums_is root_is viewport_is next_is = absurd planned.plan_is

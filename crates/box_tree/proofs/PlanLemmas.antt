@@ -24,14 +24,16 @@ use Rattle.box_tree.specs.Nodes.{NodesState, changed_at, ChangesAt}
 use Rattle.box_tree.specs.PageState.{PageState}
 use Rattle.box_tree.specs.Planned.{node_added, IsPlanned}
 use Rattle.box_tree.specs.Taken.{IsTaken, answer_by}
-use Rattle.box_tree.specs.Totals.{box_count}
+use Rattle.box_tree.specs.Forms.{form_vertices}
+use Rattle.box_tree.specs.declared.sums.Sums.{Sums}
+use Rattle.box_tree.specs.Totals.{box_count, vertex_count, sums_in}
 use Rattle.box_tree.proofs.AddLemmas.{may_add, once_there, ancestors_below-none, kept-root, kept-below}
 use Rattle.box_tree.proofs.ForestLemmas.{single, placed_in-absent, node_in-absent, node_count-put_below}
 use Rattle.box_tree.proofs.KeptLemmas.{changed-none, children-back}
 use Rattle.box_tree.proofs.KeptPages.{Means, means}
 pub use Rattle.box_tree.proofs.PlacedLemmas.{id-placed_in}
 use Rattle.box_tree.proofs.PutLemmas.{given-absent}
-use Rattle.box_tree.proofs.TotalLemmas.{total-put_below}
+use Rattle.box_tree.proofs.TotalLemmas.{same_sums, total-none, total-put_below}
 
 -- the page that nodes with a frame are
 abbrev pub state_of : NodesState → Frame → PageState
@@ -52,7 +54,7 @@ taken_as new frame taken state page edit is carried =
 -- what an exchange leaves of the numbers of a page
 pub record Leaves (new : NodesState) (frame : Frame) (after : Contents) : Type 0 where
   pub count : length new.nodes ≡ node_count after.tree
-  pub boxes : frame.boxes ≡ box_count after.tree
+  pub sums : frame.sums ≡ sums_in after.tree
   pub viewport : frame.viewport ≡ after.viewport
   pub next : frame.next ≡ after.next
   pub fits : length new.nodes ≤ new.room
@@ -60,7 +62,7 @@ pub record Leaves (new : NodesState) (frame : Frame) (after : Contents) : Type 0
 
 pub carries : (new : NodesState) (frame : Frame) (taken : Taken) (state : PageState) (edit : Edit) → IsKept (node_with new.nodes) frame.root (edited state.contents edit) → Leaves new frame (edited state.contents edit) → IsTaken taken state.contents (edited state.contents edit) new.room → answer_by taken ≡ answer_of state.contents edit → Carries new frame taken state edit
 carries new frame taken state edit kept leaves taken_is answer_is = record {
-  means = means new frame (edited state.contents edit) (record { kept = kept; count = leaves.count; boxes_are = leaves.boxes; fits = leaves.fits; placed = leaves.placed }) leaves.viewport leaves.next;
+  means = means new frame (edited state.contents edit) (record { kept = kept; count = leaves.count; sums_are = leaves.sums; fits = leaves.fits; placed = leaves.placed }) leaves.viewport leaves.next;
   taken_is = taken_is;
   answer_is = answer_is;
 }
@@ -103,25 +105,21 @@ module _ (page : Contents) (parent : ℕ) where
 
 -- the node that an add makes, field by field
 pub node_is-added : (page : Contents) (parent : ℕ) (kind : Kind) (style : Style) (boxes : List Piece) (id depth : ℕ) (children : List ℕ) (own : List Piece) (declared : Style) → IsValid page → (parent ≡ 0) ⊎ (has_id page parent ≡ true) → id ≡ page.next → children ≡ [] → depth ≡ option_map_or (λ (n : Node). n.depth) (node_of page parent) 0 → own ≡ boxes → declared ≡ style →
-    let made : Node = record { id = id; kind = kind; parent = parent; children = children; depth = depth + 1; style = declared; anchor = origin; boxes = own; scroll = origin; max = origin } in made ≡ node_added page parent kind style boxes
+    let made : Node = record { id = id; kind = kind; parent = parent; children = children; depth = depth + 1; style = declared; anchor = origin; boxes = own; form = None; scroll = origin; max = origin } in made ≡ node_added page parent kind style boxes
 node_is-added page parent kind style boxes id depth children own declared valid present id_is children_are depth_is own_is declared_is =
     let parent_is = parent-node_added page parent kind style boxes valid present in
     let depth_is' : depth + 1 ≡ 1 + length (ancestors_below page parent) = omega (arith, length-ancestors_below page parent, depth_is) in
-    rw (id_is, children_are, depth_is', own_is, declared_is) (ap (λ (k : ℕ). let made : Node = record { id = page.next; kind = kind; parent = k; children = []; depth = 1 + length (ancestors_below page parent); style = style; anchor = origin; boxes = boxes; scroll = origin; max = origin } in made) (sym parent_is))
-
--- no node, no box
-pub no_boxes : (f : Forest) → node_count f ≡ 0 → box_count f ≡ 0
-no_boxes End none = refl
-no_boxes (Grow n below others) none = absurd (omega arith)
+    rw (id_is, children_are, depth_is', own_is, declared_is) (ap (λ (k : ℕ). let made : Node = record { id = page.next; kind = kind; parent = k; children = []; depth = 1 + length (ancestors_below page parent); style = style; anchor = origin; boxes = boxes; form = None; scroll = origin; max = origin } in made) (sym parent_is))
 
 -- no node has the id 0
 nowhere : (page : Contents) → IsValid page → has_id page 0 ≡ false
 nowhere page valid = ap is_some (placed_in-absent page.tree [] 0 (given-absent page.tree [] page.next 0 valid.given (inl refl)))
 
--- an add makes the boxes of its node more
+-- an add makes the boxes of its node more, and no vertices
 pub record AddsBoxes (page after : Contents) (count : ℕ) : Type 0 where
   pub total : count + box_count page.tree ≡ box_count after.tree
   pub most : count + box_count page.tree ≤ 262144
+  pub vertices : vertex_count page.tree ≡ vertex_count after.tree
 
 pub boxes_added : (state : PageState) (edit : Edit) (node : Node) (siblings : List ℕ) → IsValid state.contents → IsPlanned (AddNode node siblings) edit state → AddsBoxes state.contents (edited state.contents edit) (length node.boxes)
 boxes_added state (Add parent at kind boxes style) node siblings valid planned =
@@ -131,24 +129,30 @@ boxes_added state (Add parent at kind boxes style) node siblings valid planned =
     let boxes_are : length node.boxes ≡ length boxes = ap (λ (m : Node). length m.boxes) planned.plan_is.node_is in
     record {
       total = elim may.present [
-        | inl none_named ↦ rw (planted-root parent at n page.tree none_named) (omega (arith, boxes_are, no_boxes page.tree (may.root none_named)))
+        | inl none_named ↦ rw (planted-root parent at n page.tree none_named) (omega (arith, boxes_are, total-none (λ m. length m.boxes) page.tree (may.root none_named)))
         | inr there ↦
             let named : parent ≢ 0 = (λ none_named. false≢true (sym (nowhere page valid) ∙ ap (has_id page) (sym none_named) ∙ there)) in
             rw (planted-below parent at n page.tree named, total-put_below (λ m. length m.boxes) page.tree parent at n End (once_there page parent valid there)) (omega (arith, boxes_are))
       ];
       most = omega (arith, boxes_are, may.total);
+      vertices = elim may.present [
+        | inl none_named ↦ rw (planted-root parent at n page.tree none_named) (omega (arith, total-none (λ m. form_vertices m.form) page.tree (may.root none_named)))
+        | inr there ↦
+            let named : parent ≢ 0 = (λ none_named. false≢true (sym (nowhere page valid) ∙ ap (has_id page) (sym none_named) ∙ there)) in
+            rw (planted-below parent at n page.tree named, total-put_below (λ m. form_vertices m.form) page.tree parent at n End (once_there page parent valid there)) (omega arith)
+      ];
     }
 boxes_added state edit node siblings valid planned = absurd planned.plan_is
 
 -- a planned add
-module _ (nodes : NodesState) (frame : Frame) (counted : IsCounted nodes frame.root frame.boxes (state_of nodes frame).contents) (node : Node) (siblings : List ℕ) where
+module _ (nodes : NodesState) (frame : Frame) (counted : IsCounted nodes frame.root frame.sums (state_of nodes frame).contents) (node : Node) (siblings : List ℕ) where
   -- the new id is not there, there is room for its node, and it has a place
   pub record CanAdd (given : NodesState) : Type 0 where
     pub absent : node_with given.nodes node.id ≡ None
     pub fits : length given.nodes < given.room
     pub placed : node.id < given.ids
     pub next : frame.next < 2 ^ 32 - 1
-    pub boxes : frame.boxes + length node.boxes ≤ 262144
+    pub boxes : frame.sums.boxes + length node.boxes ≤ 262144
 
   abbrev page : Contents
   page = (state_of nodes frame).contents
@@ -164,16 +168,16 @@ module _ (nodes : NodesState) (frame : Frame) (counted : IsCounted nodes frame.r
         fits = omega (arith, gives.count, counted.count, plan.room, gives.same_room.room);
         placed = omega (arith, id_is, plan.placed, gives.same_room.ids);
         next = omega (arith, may.next);
-        boxes = omega (arith, counted.boxes_are, boxes_are, may.total);
+        boxes = omega (arith, ap (λ (sums : Sums). sums.boxes) counted.sums_are, boxes_are, may.total);
       }
   can_add edit given planned gives = absurd planned.plan_is
 
   pub planned-add : (edit : Edit) (given new : NodesState) (frame' : Frame) (had : List ℕ) → IsPlanned (AddNode node siblings) edit (state_of nodes frame) → ChangesAt nodes given node.parent (with_children siblings) →
       had ≡ option_map_or (λ (n : Node). n.children) (node_with nodes.nodes node.parent) siblings →
       ((k : ℕ) → node_with new.nodes k ≡ (if node.id == k then Some node else node_with given.nodes k)) → length new.nodes ≡ length given.nodes + 1 → new.room ≡ given.room → new.ids ≡ given.ids →
-      frame'.boxes ≡ length node.boxes + frame.boxes → frame'.root ≡ (if node.parent == 0 then Some node.id else frame.root) → frame'.viewport ≡ frame.viewport → frame'.next ≡ frame.next + 1 →
+      frame'.sums.boxes ≡ length node.boxes + frame.sums.boxes → frame'.sums.vertices ≡ frame.sums.vertices → frame'.root ≡ (if node.parent == 0 then Some node.id else frame.root) → frame'.viewport ≡ frame.viewport → frame'.next ≡ frame.next + 1 →
       Carries new frame' (Added node.id node.parent had) (state_of nodes frame) edit
-  planned-add (Add parent at kind boxes style) given new frame' had planned gives had_is puts count room ids boxes_is root_is viewport_is next_is =
+  planned-add (Add parent at kind boxes style) given new frame' had planned gives had_is puts count room ids boxes_is vertices_is root_is viewport_is next_is =
       let valid = counted.kept.valid in
       let may = may_add page parent at kind style boxes planned.faultless in
       let plan = planned.plan_is in
@@ -206,7 +210,9 @@ module _ (nodes : NodesState) (frame : Frame) (counted : IsCounted nodes frame.r
       carries new frame' (Added node.id node.parent had) (state_of nodes frame) edit kept
       (record {
         count = omega (arith, count, gives.count, counted.count, after_count);
-        boxes = omega (arith, boxes_is, counted.boxes_are, adds.total);
+        sums = same_sums frame'.sums (sums_in (edited page edit).tree)
+            (omega (arith, boxes_is, ap (λ (sums : Sums). sums.boxes) counted.sums_are, adds.total))
+            (vertices_is ∙ ap (λ (sums : Sums). sums.vertices) counted.sums_are ∙ adds.vertices);
         viewport = viewport_is;
         next = next_is;
         fits = omega (arith, count, gives.count, counted.count, plan.room, room, gives.same_room.room);
@@ -235,4 +241,4 @@ module _ (nodes : NodesState) (frame : Frame) (counted : IsCounted nodes frame.r
             let is : (node.id == k) ≡ false = grind (arith, nat_tests) in
             rw is (children-back node.parent siblings had (node_with nodes.nodes) had_is k ∙ counted.kept.looked_up k)
       ]
-  planned-add edit given new frame' had planned gives had_is puts count room ids boxes_is root_is viewport_is next_is = absurd planned.plan_is
+  planned-add edit given new frame' had planned gives had_is puts count room ids boxes_is vertices_is root_is viewport_is next_is = absurd planned.plan_is

@@ -17,11 +17,13 @@ use Rattle.box_tree.specs.Forest.{Label, Forest, End, Grow, roots_of, ids_in, no
 use Rattle.box_tree.specs.Contents.{Contents, node_at, node_of, placed_of, tree_of, has_id, parent_id, IsGiven, IsSuited, IsValid}
 use Rattle.box_tree.specs.Counted.{IsCounted}
 use Rattle.box_tree.specs.Edited.{taken_out}
-use Rattle.box_tree.specs.Kept.{node_with, with_children, IsKept}
+use Rattle.box_tree.specs.Kept.{node_with, label_of, with_children, IsKept}
 use Rattle.box_tree.specs.Nodes.{NodesState, changed_at, ChangesAt, HasSameRoom}
 use Rattle.box_tree.specs.Planned.{ids_without, children_without, is_among, times_in, IsPlanned}
 use Rattle.box_tree.specs.Taken.{ids_of, AreFrom}
-use Rattle.box_tree.specs.Totals.{box_count}
+use Rattle.box_tree.specs.Totals.{total_over, sums_in, sums_over, sums_less}
+use Rattle.box_tree.specs.declared.sums.Sums.{Sums}
+use Rattle.box_tree.proofs.BoxLemmas.{boxes_in, vertices_in}
 use Rattle.box_tree.proofs.CountLemmas.{times_in-ids_in, length-ids_in, length-ids_of, weight_of, sum-of_tree}
 use Rattle.box_tree.proofs.ForestLemmas.{node_in-absent, or-none, placed_in-absent, placed_in-present}
 use Rattle.box_tree.proofs.KeptLemmas.{changed-none, changed-here, changed-other, is_some-changed, children-back, node_with-from}
@@ -30,7 +32,7 @@ use Rattle.box_tree.proofs.PlanLemmas.{state_of, Carries, carries, is_some-node_
 use Rattle.box_tree.proofs.PutLemmas.{given-absent}
 use Rattle.box_tree.proofs.SubtreeLemmas.{parent_there, no_child, is_among-ids_in}
 use Rattle.box_tree.proofs.TakenLemmas.{taken_out-head, occurrences-taken_out, height-taken_out, node_count-taken_out, each-taken_out, roots-taken_out, length-ids_without, place_without, placed_in-taken_out, occurrences-parted, node_count-parted}
-use Rattle.box_tree.proofs.TotalLemmas.{total-taken_out, total-parted}
+use Rattle.box_tree.proofs.TotalLemmas.{same_sums, total-taken_out, total-parted}
 
 -- a node without the tree of one that goes
 pub node_at-without : (id : ℕ) (p : Placed) → node_at (place_without id p) ≡ record (node_at p) { children = ids_without id (roots_of p.below) }
@@ -52,7 +54,8 @@ module _ (page : Contents) (valid : IsValid page) (id : ℕ) where
     suited = each-taken_out IsSuited page.tree [] id valid.suited;
     depth = omega (arith, height-taken_out page.tree id, valid.depth);
     nodes = omega (arith, node_count-taken_out page.tree id, valid.nodes);
-    boxes = omega (arith, total-taken_out (λ n. length n.boxes) page.tree id, valid.boxes);
+    boxes = omega (arith, total-taken_out boxes_in page.tree id, valid.boxes);
+    vertices = omega (arith, total-taken_out vertices_in page.tree id, valid.vertices);
     next = valid.next;
     viewport = valid.viewport;
   }
@@ -157,7 +160,7 @@ given_there f above next k each some = (
 )
 
 -- a planned remove
-module _ (nodes : NodesState) (frame : Frame) (counted : IsCounted nodes frame.root frame.boxes (state_of nodes frame).contents) (parent : ℕ) (siblings ids : List ℕ) (gone : Vec Node Global) where
+module _ (nodes : NodesState) (frame : Frame) (counted : IsCounted nodes frame.root frame.sums (state_of nodes frame).contents) (parent : ℕ) (siblings ids : List ℕ) (gone : Vec Node Global) where
   abbrev page : Contents
   page = (state_of nodes frame).contents
 
@@ -192,44 +195,55 @@ module _ (nodes : NodesState) (frame : Frame) (counted : IsCounted nodes frame.r
   module _ (given new : NodesState) (out : Vec Node Global) (gives : ChangesAt nodes given parent (with_children siblings))
       (takes : (k : ℕ) → node_with new.nodes k ≡ (if is_among ids k then None else node_with given.nodes k)) (count : length new.nodes + length ids ≡ length given.nodes) (same_room : HasSameRoom given new)
       (ids_of_out : ids_of out.items ≡ ids) (from : AreFrom (node_with given.nodes) out.items) where
-    -- the boxes of the nodes that went are those of the tree
-    boxes_out : (id : ℕ) → ids ≡ ids_in (tree_of page id) → sum_by (λ n. length n.boxes) out.items ≡ box_count (tree_of page id)
-    boxes_out id ids_are = by_place (placed_of page id) refl
+    -- a number of the nodes that went is that of the tree
+    total_out : (weight : Label → ℕ) (id : ℕ) → ids ≡ ids_in (tree_of page id) → sum_by (λ n. weight (label_of n)) out.items ≡ total_over weight (tree_of page id)
+    total_out weight id ids_are = by_place (placed_of page id) refl
       where
-        sees : (k : ℕ) (n : Node) → node_with given.nodes k ≡ Some n → length n.boxes ≡ weight_of (λ m. length m.boxes) page k
+        sees : (k : ℕ) (n : Node) → node_with given.nodes k ≡ Some n → weight (label_of n) ≡ weight_of weight page k
         sees k n is = by_placed (placed_of page k) (sym (ap (changed_at parent (with_children siblings) k) (counted.kept.looked_up k)) ∙ sym (gives.looked_up k) ∙ is)
           where
-            by_placed : (o : Option Placed) → changed_at parent (with_children siblings) k (option_map node_at o) ≡ Some n → length n.boxes ≡ option_map_or (λ (p : Placed). length p.label.boxes) o 0
+            by_placed : (o : Option Placed) → changed_at parent (with_children siblings) k (option_map node_at o) ≡ Some n → weight (label_of n) ≡ option_map_or (λ (p : Placed). weight p.label) o 0
             by_placed None seen = absurd (none_some (sym (changed-none parent (with_children siblings) k) ∙ seen))
               where
                 none_some : None ≡ Some n → ⊥
                 none_some is' = cc
             by_placed (Some p) seen = by_test (parent == k) seen
               where
-                by_test : (b : Bool) → (if b then option_map (with_children siblings) (Some (node_at p)) else Some (node_at p)) ≡ Some n → length n.boxes ≡ length p.label.boxes
-                by_test true seen' = let is' : with_children siblings (node_at p) ≡ n = cc in sym (ap (λ (m : Node). length m.boxes) is')
-                by_test false seen' = let is' : node_at p ≡ n = cc in sym (ap (λ (m : Node). length m.boxes) is')
+                by_test : (b : Bool) → (if b then option_map (with_children siblings) (Some (node_at p)) else Some (node_at p)) ≡ Some n → weight (label_of n) ≡ weight p.label
+                by_test true seen' = let is' : with_children siblings (node_at p) ≡ n = cc in sym (ap (λ (m : Node). weight (label_of m)) is')
+                by_test false seen' = let is' : node_at p ≡ n = cc in sym (ap (λ (m : Node). weight (label_of m)) is')
 
-        by_place : (o : Option Placed) → placed_of page id ≡ o → sum_by (λ n. length n.boxes) out.items ≡ box_count (option_map_or (λ p. Grow p.label p.below End) o End)
+        by_place : (o : Option Placed) → placed_of page id ≡ o → sum_by (λ n. weight (label_of n)) out.items ≡ total_over weight (option_map_or (λ p. Grow p.label p.below End) o End)
         by_place None found =
-            sum-of_tree (λ m. length m.boxes) page (λ n. length n.boxes) out.items (node_with given.nodes) sees from End [] tt (ids_of_out ∙ ids_are ∙ ap (λ o. ids_in (option_map_or (λ p. Grow p.label p.below End) o End)) found)
+            sum-of_tree weight page (λ n. weight (label_of n)) out.items (node_with given.nodes) sees from End [] tt (ids_of_out ∙ ids_are ∙ ap (λ o. ids_in (option_map_or (λ p. Grow p.label p.below End) o End)) found)
         by_place (Some p) found =
-            sum-of_tree (λ m. length m.boxes) page (λ n. length n.boxes) out.items (node_with given.nodes) sees from (Grow p.label p.below End) p.above
+            sum-of_tree weight page (λ n. weight (label_of n)) out.items (node_with given.nodes) sees from (Grow p.label p.below End) p.above
             (ap (placed_of page) (id-placed_in page.tree [] id p found) ∙ found, (found-at_places page id p counted.kept.valid found, tt))
             (ids_of_out ∙ ids_are ∙ ap (λ o. ids_in (option_map_or (λ p'. Grow p'.label p'.below End) o End)) found)
 
-    -- they are some of those of the page
-    pub boxes_fit : (edit : Edit) → IsPlanned (RemoveNodes parent siblings ids gone) edit (state_of nodes frame) → sum_by (λ n. length n.boxes) out.items ≤ frame.boxes
-    boxes_fit (Remove id) planned = omega (arith, boxes_out id planned.plan_is.ids_are, total-parted (λ n. length n.boxes) page.tree [] id (counted.kept.valid.distinct id), counted.boxes_are)
-    boxes_fit edit planned = absurd planned.plan_is
+    -- the boxes and the vertices that went are some of those of the page, which are few
+    pub record SumsGo : Type 0 where
+      pub boxes : (sums_over out.items).boxes ≤ frame.sums.boxes
+      pub vertices : (sums_over out.items).vertices ≤ frame.sums.vertices
+      pub few_boxes : frame.sums.boxes ≤ 262144
+      pub few_vertices : frame.sums.vertices ≤ 1048576
 
-    pub boxes_few : (edit : Edit) → IsPlanned (RemoveNodes parent siblings ids gone) edit (state_of nodes frame) → sum_by (λ n. length n.boxes) out.items ≤ 262144
-    boxes_few edit planned = omega (arith, boxes_fit edit planned, counted.boxes_are, counted.kept.valid.boxes)
+    pub sums_go : (edit : Edit) → IsPlanned (RemoveNodes parent siblings ids gone) edit (state_of nodes frame) → SumsGo
+    sums_go (Remove id) planned =
+        let boxes_are = ap (λ (sums : Sums). sums.boxes) counted.sums_are in
+        let vertices_are = ap (λ (sums : Sums). sums.vertices) counted.sums_are in
+        record {
+          boxes = omega (arith, total_out boxes_in id planned.plan_is.ids_are, total-parted boxes_in page.tree [] id (counted.kept.valid.distinct id), boxes_are);
+          vertices = omega (arith, total_out vertices_in id planned.plan_is.ids_are, total-parted vertices_in page.tree [] id (counted.kept.valid.distinct id), vertices_are);
+          few_boxes = omega (arith, boxes_are, counted.kept.valid.boxes);
+          few_vertices = omega (arith, vertices_are, counted.kept.valid.vertices);
+        }
+    sums_go edit planned = absurd planned.plan_is
 
     pub planned-remove : (edit : Edit) (frame' : Frame) (had : List ℕ) → IsPlanned (RemoveNodes parent siblings ids gone) edit (state_of nodes frame) → had ≡ option_map_or (λ (n : Node). n.children) (node_with nodes.nodes parent) siblings →
-        frame'.boxes ≡ frame.boxes - sum_by (λ n. length n.boxes) out.items → frame'.root ≡ (if parent == 0 then None else frame.root) → frame'.viewport ≡ frame.viewport → frame'.next ≡ frame.next →
+        frame'.sums ≡ sums_less frame.sums (sums_over out.items) → frame'.root ≡ (if parent == 0 then None else frame.root) → frame'.viewport ≡ frame.viewport → frame'.next ≡ frame.next →
         Carries new frame' (Removed parent had out) (state_of nodes frame) edit
-    planned-remove (Remove id) frame' had planned had_is boxes_is root_is viewport_is next_is =
+    planned-remove (Remove id) frame' had planned had_is sums_is root_is viewport_is next_is =
         let valid = counted.kept.valid in
         let plan = planned.plan_is in
         let placed = placed_below page id parent plan.parent_is in
@@ -242,7 +256,9 @@ module _ (nodes : NodesState) (frame : Frame) (counted : IsCounted nodes frame.r
         carries new frame' (Removed parent had out) (state_of nodes frame) (Remove id) kept
         (record {
           count = omega (arith, count, gives.count, counted.count, count_ids, parted);
-          boxes = omega (arith, boxes_is, counted.boxes_are, boxes_out id plan.ids_are, total-parted (λ n. length n.boxes) page.tree [] id (valid.distinct id));
+          sums = same_sums frame'.sums (sums_in (taken_out id page.tree))
+              (omega (arith, ap (λ (sums : Sums). sums.boxes) sums_is, ap (λ (sums : Sums). sums.boxes) counted.sums_are, total_out boxes_in id plan.ids_are, total-parted boxes_in page.tree [] id (valid.distinct id)))
+              (omega (arith, ap (λ (sums : Sums). sums.vertices) sums_is, ap (λ (sums : Sums). sums.vertices) counted.sums_are, total_out vertices_in id plan.ids_are, total-parted vertices_in page.tree [] id (valid.distinct id)));
           viewport = viewport_is;
           next = next_is;
           fits = omega (arith, count, gives.count, counted.fits, same_room.room, gives.same_room.room);
@@ -278,4 +294,4 @@ module _ (nodes : NodesState) (frame : Frame) (counted : IsCounted nodes frame.r
         by_among : (b : Bool) (o : Option Node) → is_some (if b then o else None) ≡ true → (if b then None else o) ≡ None
         by_among true o is = refl
         by_among false o is = absurd (false≢true is)
-    planned-remove edit frame' had planned had_is boxes_is root_is viewport_is next_is = absurd planned.plan_is
+    planned-remove edit frame' had planned had_is sums_is root_is viewport_is next_is = absurd planned.plan_is

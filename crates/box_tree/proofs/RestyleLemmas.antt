@@ -10,7 +10,8 @@ use Rattle.box_tree.specs.Edited.{IsRestyleInRange, kind_takes_style, relabelled
 use Rattle.box_tree.specs.Kept.{with_label, IsKept}
 use Rattle.box_tree.specs.Nodes.{changed_at}
 use Rattle.box_tree.specs.Suits.{takes_style}
-use Rattle.box_tree.specs.Totals.{box_count}
+use Rattle.box_tree.specs.Totals.{box_count, vertex_count}
+use Rattle.box_tree.specs.Forms.{form_vertices}
 use Rattle.box_tree.proofs.AddLemmas.{none_holds, not_false}
 use Rattle.box_tree.proofs.PlaceLemmas.{kept-relabelled}
 use Rattle.box_tree.proofs.SuitsLemmas.{style_suits-any}
@@ -39,6 +40,7 @@ suited-restyled page id style range may q found suited = record {
   style_in_range = range.style_in_range;
   box_count = suited.box_count;
   in_range = suited.in_range;
+  formed = suited.formed;
   anchor = suited.anchor;
   scroll = suited.scroll;
 }
@@ -48,4 +50,5 @@ pub kept-restyled : (page : Contents) (id : ℕ) (style : Style) (first : Option
     IsKept look' first (record page { tree = relabelled id (restyled style) page.tree })
 kept-restyled page id style first look look' make range may kept makes known =
     let few : box_count (relabelled id (restyled style) page.tree) ≤ 262144 = omega (arith, boxes_restyled page id style, kept.valid.boxes) in
-    kept-relabelled id (restyled style) (λ n. refl) page kept.valid (λ n. refl) few (suited-restyled page id style range may) first look look' make kept makes known
+    let few' : vertex_count (relabelled id (restyled style) page.tree) ≤ 1048576 = omega (arith, total-relabelled-same (λ n. form_vertices n.form) id (restyled style) (λ n. refl) page.tree, kept.valid.vertices) in
+    kept-relabelled id (restyled style) (λ n. refl) page kept.valid (λ n. refl) few few' (suited-restyled page id style range may) first look look' make kept makes known

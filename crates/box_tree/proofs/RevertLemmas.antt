@@ -19,11 +19,11 @@ use Rattle.box_tree.proofs.KeptPages.{Means, means}
 use Rattle.box_tree.proofs.PlanLemmas.{state_of}
 
 -- what a commit leaves, to take it back
-pub undo_from : (nodes : NodesState) (frame : Frame) → IsCounted nodes frame.root frame.boxes (state_of nodes frame).contents → (state : PageState) → state_of nodes frame ≡ state → (taken taken' : Taken) (edit : Edit) (before after after' : PageState) → before ≡ state → after ≡ after' → taken ≡ taken' →
+pub undo_from : (nodes : NodesState) (frame : Frame) → IsCounted nodes frame.root frame.sums (state_of nodes frame).contents → (state : PageState) → state_of nodes frame ≡ state → (taken taken' : Taken) (edit : Edit) (before after after' : PageState) → before ≡ state → after ≡ after' → taken ≡ taken' →
     IsTaken taken' state.contents after'.contents after'.room → answer_by taken' ≡ answer_of state.contents edit → IsUndo taken frame edit before after
 undo_from nodes frame counted state view_is taken taken' edit before after after' before_is after_is taken_is leads answers = record {
   valid = subst (λ (s : PageState). IsValid s.contents) (view_is ∙ sym before_is) counted.kept.valid;
-  frame_is = subst (λ (s : PageState). IsFrame frame s.contents) (view_is ∙ sym before_is) (record { boxes = counted.boxes_are; root = counted.kept.root; viewport = refl; next = refl });
+  frame_is = subst (λ (s : PageState). IsFrame frame s.contents) (view_is ∙ sym before_is) (record { sums = counted.sums_are; root = counted.kept.root; viewport = refl; next = refl });
   taken_is =
       subst (λ t. IsTaken t before.contents after.contents after.room) (sym taken_is)
       (subst (λ (s : PageState). IsTaken taken' s.contents after.contents after.room) (sym before_is)
@@ -47,7 +47,7 @@ can_go_back_so (Moved place siblings children ids) look look' count count' room 
 can_go_back_so (Changed id change) look look' count count' room room' HasPlace HasPlace' same counts rooms places can = tt
 can_go_back_so Untouched look look' count count' room room' HasPlace HasPlace' same counts rooms places can = tt
 
-module _ (nodes : NodesState) (frame : Frame) (counted : IsCounted nodes frame.root frame.boxes (state_of nodes frame).contents) (taken : Taken) (frame' : Frame) (edit : Edit) (before after : PageState) (undo : IsUndo taken frame' edit before after)
+module _ (nodes : NodesState) (frame : Frame) (counted : IsCounted nodes frame.root frame.sums (state_of nodes frame).contents) (taken : Taken) (frame' : Frame) (edit : Edit) (before after : PageState) (undo : IsUndo taken frame' edit before after)
     (after_is : after.contents ≡ (state_of nodes frame).contents) (room_is : after.room ≡ nodes.room) where
   -- an id is looked up in the nodes as in the page after the edit
   seen_after : (k : ℕ) → node_with nodes.nodes k ≡ node_of after.contents k
@@ -75,7 +75,7 @@ module _ (nodes : NodesState) (frame : Frame) (counted : IsCounted nodes frame.r
           root = frame_is.root;
         };
         count = count_is;
-        boxes_are = frame_is.boxes;
+        sums_are = frame_is.sums;
         fits = omega (arith, count_is, taken_is.fits, room_is, same_room.room);
         placed = λ k positive below. omega (arith, placed_after k (positive, omega (arith, below, taken_is.next)), same_room.ids);
       })

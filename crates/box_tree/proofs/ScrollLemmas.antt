@@ -16,7 +16,8 @@ use Rattle.box_tree.specs.Edited.{kind_takes_scroll, relabelled, scrolled_node, 
 use Rattle.box_tree.specs.Kept.{with_label, IsKept}
 use Rattle.box_tree.specs.Nodes.{NodesState, changed_at}
 use Rattle.box_tree.specs.Planned.{IsPlanned}
-use Rattle.box_tree.specs.Totals.{box_count}
+use Rattle.box_tree.specs.Totals.{box_count, vertex_count}
+use Rattle.box_tree.specs.Forms.{form_vertices}
 use Rattle.box_tree.proofs.AddLemmas.{none_holds, not_false}
 use Rattle.box_tree.proofs.PlaceLemmas.{kept-relabelled, scrolled-clamped}
 use Rattle.box_tree.proofs.PlanLemmas.{state_of, Carries, carries}
@@ -45,6 +46,7 @@ suited-scrolled page id x y q found suited = record {
   style_in_range = suited.style_in_range;
   box_count = suited.box_count;
   in_range = suited.in_range;
+  formed = suited.formed;
   anchor = suited.anchor;
   scroll = scrolled-clamped q.label.max (record { x = x; y = y }) suited.scroll.greatest;
 }
@@ -54,12 +56,13 @@ pub kept-scrolled : (page : Contents) (id : ℕ) (x y : ℤ) (first : Option ℕ
     IsKept look' first (record page { tree = relabelled id (scrolled_node x y) page.tree })
 kept-scrolled page id x y first look look' make kept makes known =
     let few : box_count (relabelled id (scrolled_node x y) page.tree) ≤ 262144 = omega (arith, boxes_stay page id x y, kept.valid.boxes) in
-    kept-relabelled id (scrolled_node x y) (λ n. refl) page kept.valid (λ n. refl) few (suited-scrolled page id x y) first look look' make kept makes known
+    let few' : vertex_count (relabelled id (scrolled_node x y) page.tree) ≤ 1048576 = omega (arith, total-relabelled-same (λ n. form_vertices n.form) id (scrolled_node x y) (λ n. refl) page.tree, kept.valid.vertices) in
+    kept-relabelled id (scrolled_node x y) (λ n. refl) page kept.valid (λ n. refl) few few' (suited-scrolled page id x y) first look look' make kept makes known
 
 -- a planned scroll of the viewport: the nodes stay
-pub planned-scroll_view : (nodes : NodesState) (frame frame' : Frame) (to : Spot) (edit : Edit) → IsCounted nodes frame.root frame.boxes (state_of nodes frame).contents → IsPlanned (ScrollViewport to) edit (state_of nodes frame) →
-    frame'.boxes ≡ frame.boxes → frame'.root ≡ frame.root → frame'.viewport ≡ scrolled_view to.x to.y frame.viewport → frame'.next ≡ frame.next → Carries nodes frame' Untouched (state_of nodes frame) edit
-planned-scroll_view nodes frame frame' to (ScrollView x y) counted planned boxes_is root_is viewport_is next_is =
+pub planned-scroll_view : (nodes : NodesState) (frame frame' : Frame) (to : Spot) (edit : Edit) → IsCounted nodes frame.root frame.sums (state_of nodes frame).contents → IsPlanned (ScrollViewport to) edit (state_of nodes frame) →
+    frame'.sums ≡ frame.sums → frame'.root ≡ frame.root → frame'.viewport ≡ scrolled_view to.x to.y frame.viewport → frame'.next ≡ frame.next → Carries nodes frame' Untouched (state_of nodes frame) edit
+planned-scroll_view nodes frame frame' to (ScrollView x y) counted planned sums_is root_is viewport_is next_is =
     let page = (state_of nodes frame).contents in
     let plan = planned.plan_is in
     let after : Contents = record page { viewport = scrolled_view x y page.viewport } in
@@ -72,6 +75,7 @@ planned-scroll_view nodes frame frame' to (ScrollView x y) counted planned boxes
       depth = kept.valid.depth;
       nodes = kept.valid.nodes;
       boxes = kept.valid.boxes;
+      vertices = kept.valid.vertices;
       next = kept.valid.next;
       viewport = record {
         width = kept.valid.viewport.width;
@@ -83,7 +87,7 @@ planned-scroll_view nodes frame frame' to (ScrollView x y) counted planned boxes
     (rw root_is (record { valid = valid; looked_up = kept.looked_up; root = kept.root }))
     (record {
       count = counted.count;
-      boxes = boxes_is ∙ counted.boxes_are;
+      sums = sums_is ∙ counted.sums_are;
       viewport = viewport_is ∙ ap (λ k. scrolled_view k to.y page.viewport) plan.across_is ∙ ap (λ k. scrolled_view x k page.viewport) plan.down_is;
       next = next_is;
       fits = counted.fits;
@@ -97,4 +101,4 @@ planned-scroll_view nodes frame frame' to (ScrollView x y) counted planned boxes
       next = omega arith;
     })
     refl
-planned-scroll_view nodes frame frame' to edit counted planned boxes_is root_is viewport_is next_is = absurd planned.plan_is
+planned-scroll_view nodes frame frame' to edit counted planned sums_is root_is viewport_is next_is = absurd planned.plan_is

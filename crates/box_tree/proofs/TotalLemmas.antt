@@ -3,13 +3,23 @@ use Rattle.std.proofs.Common.{◌≡◌, ℕ, zero, suc, ◌+◌, ◌≤◌, ◌
 use Rattle.std.specs.Option.{option_or, option_map_or}
 use Rattle.std.proofs.lemmas.Bool.{cases_lt, cases_eq}
 use Rattle.std.proofs.lemmas.Bool.Decides.{nat_tests}
-use Rattle.box_tree.specs.Forest.{Label, Forest, End, Grow, occurrences, Placed, placed_in}
+use Rattle.box_tree.specs.Forest.{Label, Forest, End, Grow, node_count, occurrences, Placed, placed_in}
+use Rattle.box_tree.specs.declared.sums.Sums.{Sums}
 use Rattle.box_tree.specs.Totals.{total_over}
 use Rattle.box_tree.specs.Edited.{put_in, put_below, taken_out, relabelled}
 use Rattle.box_tree.proofs.ForestLemmas.{single, placed_in-head, placed_in-below, placed_in-others, put_below-absent, put_below-here, put_below-other}
 use Rattle.box_tree.proofs.TakenLemmas.{taken_out-head, taken_out-other, taken_out-absent, tree_in}
 
+-- sums are known by their two numbers
+pub same_sums : (sums others : Sums) → sums.boxes ≡ others.boxes → sums.vertices ≡ others.vertices → sums ≡ others
+same_sums sums others boxes vertices = rw (boxes, vertices) refl
+
 module _ (weight : Label → ℕ) where
+  -- no node, and so nothing of one
+  pub total-none : (f : Forest) → node_count f ≡ 0 → total_over weight f ≡ 0
+  total-none End none = refl
+  total-none (Grow n below others) none = absurd (omega arith)
+
   -- a tree more
   pub total-put_in : (f : Forest) (at : ℕ) (n : Label) (below : Forest) → total_over weight (put_in at n below f) ≡ total_over weight (single n below) + total_over weight f
   total-put_in f zero n below = omega arith

@@ -1,16 +1,18 @@
 -- The contents of a page, what is read of it, and when it is valid.
-use Rattle.std.specs.Prelude.{ℕ, ◌+◌, ◌<◌, ◌≤◌, ◌^◌, List, [], ◌∷◌, length, Option, Bool, is_some, IsTrue, ℤ, pos, ◌≤ℤ◌, ◌+ℤ◌, All}
+use Rattle.std.specs.Prelude.{ℕ, ◌+◌, ◌<◌, ◌≤◌, ◌^◌, List, [], ◌∷◌, length, Option, None, Bool, is_some, IsTrue, IfSome, ℤ, pos, ◌≤ℤ◌, ◌+ℤ◌, All}
 use Rattle.std.specs.Option.{option_map, option_map_or}
 use Rattle.fractions.specs.declared.rect.Spot.{Spot}
 use Rattle.computed_style.specs.declared.style.Style.{Style}
 pub use Rattle.computed_style.specs.Ranges.{IsWithin, IsSide}
 use Rattle.computed_style.specs.Ranges.{IsStyleInRange}
+use Rattle.box_tree.specs.declared.form.Form.{Form}
 use Rattle.box_tree.specs.declared.kind.Kind.{Kind}
 use Rattle.box_tree.specs.declared.piece.Piece.{Piece}
 use Rattle.box_tree.specs.declared.node.Node.{Node}
 use Rattle.box_tree.specs.declared.viewport.Viewport.{Viewport}
-use Rattle.box_tree.specs.Suits.{has_no_parent, kind_suits, box_count_suits, style_suits}
-use Rattle.box_tree.specs.Totals.{box_count}
+use Rattle.box_tree.specs.Suits.{has_no_parent, kind_suits, box_count_suits, style_suits, form_suits}
+use Rattle.box_tree.specs.Totals.{box_count, vertex_count}
+use Rattle.box_tree.specs.Forms.{IsFormInRange, form_vertices}
 use Rattle.box_tree.specs.Forest.{Label, Forest, End, Grow, roots_of, node_count, height_of, occurrences, Placed, placed_in, EachNode}
 
 -- what a page holds: a tree of nodes or none, the viewport and the next id
@@ -39,6 +41,7 @@ node_at p = record {
   style = p.label.style;
   anchor = p.label.anchor;
   boxes = p.label.boxes;
+  form = p.label.form;
   scroll = p.label.scroll;
   max = p.label.max;
 }
@@ -75,9 +78,9 @@ has_id page id = is_some (placed_of page id)
 abbrev pub origin : Spot
 origin = record { x = pos 0; y = pos 0 }
 
--- what a new node is: it has no anchor, and nothing to scroll
+-- what a new node is: it has no anchor and no form, and nothing to scroll
 abbrev pub new_label : ℕ → Kind → Style → List Piece → Label
-new_label id kind style boxes = record { id = id; kind = kind; style = style; anchor = origin; boxes = boxes; scroll = origin; max = origin }
+new_label id kind style boxes = record { id = id; kind = kind; style = style; anchor = origin; boxes = boxes; form = None; scroll = origin; max = origin }
 
 -- a page with no node, seen through an unscrolled viewport of these sides
 abbrev pub empty_page : ℤ → ℤ → Contents
@@ -114,6 +117,12 @@ pub record IsBoxInRange (box : Piece) : Type 0 where
   pub across : IsSpanInRange box.l box.w
   pub down : IsSpanInRange box.t box.h
 
+-- a form suits the kind of its node, and its numbers and the number of its vertices are within the limits
+pub record IsFormed (kind : Kind) (form : Option Form) : Type 0 where
+  pub suits : IsTrue (form_suits kind form)
+  pub in_range : IfSome form IsFormInRange
+  pub vertices : form_vertices form ≤ 4096
+
 -- a node suits its place, and its numbers are within the limits
 pub record IsSuited (above : List Label) (n : Label) : Type 0 where
   pub kind : IsTrue (kind_suits above n.kind)
@@ -122,6 +131,7 @@ pub record IsSuited (above : List Label) (n : Label) : Type 0 where
   pub style_in_range : IsStyleInRange n.style
   pub box_count : length n.boxes ≤ 1024
   pub in_range : All IsBoxInRange n.boxes
+  pub formed : IsFormed n.kind n.form
   pub anchor : IsSpotInRange n.anchor
   pub scroll : IsScrolled n.scroll n.max
 
@@ -145,5 +155,6 @@ pub record IsValid (page : Contents) : Type 0 where
   pub depth : height_of page.tree ≤ 256
   pub nodes : node_count page.tree ≤ 65536
   pub boxes : box_count page.tree ≤ 262144
+  pub vertices : vertex_count page.tree ≤ 1048576
   pub next : (0 < page.next) × (page.next ≤ 1048577)
   pub viewport : IsViewport page.viewport

@@ -6,17 +6,19 @@ use Rattle.std.specs.List.{list_any}
 use Rattle.fractions.specs.declared.rect.Spot.{Spot}
 use Rattle.computed_style.specs.Ranges.{IsStyleInRange}
 use Rattle.computed_style.specs.declared.style.Style.{Style}
+use Rattle.box_tree.specs.declared.form.Form.{Form}
 use Rattle.box_tree.specs.declared.piece.Piece.{Piece}
 use Rattle.box_tree.specs.declared.viewport.Viewport.{Viewport}
 use Rattle.box_tree.specs.declared.edit.Edit.{Edit}
-use Rattle.box_tree.specs.declared.edit.Edit.TheVariants.{Add, Remove, Move, Place, Restyle, Scroll, Resize, ScrollView}
+use Rattle.box_tree.specs.declared.edit.Edit.TheVariants.{Add, Remove, Move, Place, Restyle, Reshape, Scroll, Resize, ScrollView}
 use Rattle.box_tree.specs.declared.edit.Done.{Done}
 use Rattle.box_tree.specs.declared.edit.Done.TheVariants.{Node as NodeAdded, Done as EditDone}
 use Rattle.box_tree.specs.declared.edit.EditFault.{EditFault}
 use Rattle.box_tree.specs.declared.edit.EditFault.TheVariants as fault
 use Rattle.box_tree.specs.Forest.{Label, Forest, End, Grow, roots_of, node_count, height_of, occurrences}
-use Rattle.box_tree.specs.Suits.{has_no_parent, kind_suits, box_count_suits, takes_place, takes_style, takes_scroll, node_suits}
-use Rattle.box_tree.specs.Totals.{box_count}
+use Rattle.box_tree.specs.Suits.{has_no_parent, kind_suits, box_count_suits, takes_place, takes_style, takes_form, takes_scroll, node_suits}
+use Rattle.box_tree.specs.Totals.{box_count, vertex_count}
+use Rattle.box_tree.specs.Forms.{IsFormInRange, vertices_of_form}
 use Rattle.box_tree.specs.Contents.{Contents, placed_of, tree_of, has_id, depth_below, new_label, IsWithin, IsBoxInRange, IsSpotInRange, IsMaxInRange}
 
 -- an id is from 1 to 4,294,967,295
@@ -39,6 +41,11 @@ pub record IsPlaceInRange (id : ℕ) (anchor : Spot) (boxes : List Piece) (max :
 pub record IsRestyleInRange (id : ℕ) (style : Style) : Type 0 where
   pub id_in_range : IsId id
   pub style_in_range : IsStyleInRange style
+
+-- the numbers of a reshape are within their limits
+pub record IsReshapeInRange (id : ℕ) (form : Form) : Type 0 where
+  pub id_in_range : IsId id
+  pub form_in_range : IsFormInRange form
 
 -- the numbers of a scroll are within their limits
 pub record IsScrollInRange (id : ℕ) (x y : ℤ) : Type 0 where
@@ -64,6 +71,7 @@ IsInRange (Remove id) = IsId id
 IsInRange (Move id parent at) = IsId id
 IsInRange (Place id anchor boxes max) = IsPlaceInRange id anchor boxes max
 IsInRange (Restyle id style) = IsRestyleInRange id style
+IsInRange (Reshape id form) = IsReshapeInRange id form
 IsInRange (Scroll id x y) = IsScrollInRange id x y
 IsInRange (Resize w h max) = IsResizeInRange w h max
 IsInRange (ScrollView x y) = IsScrollViewInRange x y
@@ -121,6 +129,10 @@ laid_out anchor boxes max n = record n { anchor = anchor; boxes = boxes; scroll 
 abbrev pub restyled : Style → Label → Label
 restyled style n = record n { style = style }
 
+-- a node with this form in place of the one that it had, or of none
+abbrev pub reshaped : Form → Label → Label
+reshaped form n = record n { form = Some form }
+
 -- a node that is scrolled to a position, whether it clips or not
 abbrev pub scrolled_node : ℤ → ℤ → Label → Label
 scrolled_node x y n = record n { scroll = scroll_to n.max x y }
@@ -143,6 +155,7 @@ edited page (Remove id) = record page { tree = taken_out id page.tree }
 edited page (Move id parent at) = record page { tree = moved page id parent at }
 edited page (Place id anchor boxes max) = record page { tree = relabelled id (laid_out anchor boxes max) page.tree }
 edited page (Restyle id style) = record page { tree = relabelled id (restyled style) page.tree }
+edited page (Reshape id form) = record page { tree = relabelled id (reshaped form) page.tree }
 edited page (Scroll id x y) = record page { tree = relabelled id (scrolled_node x y) page.tree }
 edited page (Resize w h max) = record page { viewport = resized w h max page.viewport }
 edited page (ScrollView x y) = record page { viewport = scrolled_view x y page.viewport }
@@ -154,6 +167,7 @@ answer_of page (Remove id) = EditDone
 answer_of page (Move id parent at) = EditDone
 answer_of page (Place id anchor boxes max) = EditDone
 answer_of page (Restyle id style) = EditDone
+answer_of page (Reshape id form) = EditDone
 answer_of page (Scroll id x y) = EditDone
 answer_of page (Resize w h max) = EditDone
 answer_of page (ScrollView x y) = EditDone
@@ -183,6 +197,10 @@ first_of ((holds, why) ∷ others) = if holds then Some why else first_of others
 abbrev pub has_too_many_boxes : (of_node of_page : ℕ) → Bool
 has_too_many_boxes of_node of_page = nat_lt 1024 of_node || nat_lt 262144 of_page
 
+-- whether a form has too many vertices, or the page has once an edit is carried out
+abbrev pub has_too_many_vertices : (of_form of_page : ℕ) → Bool
+has_too_many_vertices of_form of_page = nat_lt 4096 of_form || nat_lt 1048576 of_page
+
 -- whether the page is full for one more node, with so many boxes
 abbrev pub is_full_for : Contents → ℕ → Bool
 is_full_for page count = nat_le 65536 (node_count page.tree) || (nat_lt 1048576 page.next || has_too_many_boxes count (count + box_count page.tree))
@@ -199,6 +217,10 @@ kind_may_be_placed page id count =
 -- whether the node `id` has a kind that may be given another style
 abbrev pub kind_takes_style : Contents → ℕ → Bool
 kind_takes_style page id = option_map_or (λ p. takes_style p.label.kind) (placed_of page id) false
+
+-- whether the node `id` has a kind that may be given this form
+abbrev pub kind_takes_form : Contents → ℕ → Form → Bool
+kind_takes_form page id form = option_map_or (λ p. takes_form p.label.kind form) (placed_of page id) false
 
 -- whether the node `id` has a kind that may be scrolled
 abbrev pub kind_takes_scroll : Contents → ℕ → Bool
@@ -231,6 +253,11 @@ faults_of page (Place id anchor boxes max) =
 faults_of page (Restyle id style) =
     (not (has_id page id), fault.Absent)
     ∷ (not (kind_takes_style page id), fault.Kind)
+    ∷ []
+faults_of page (Reshape id form) =
+    (not (has_id page id), fault.Absent)
+    ∷ (not (kind_takes_form page id form), fault.Kind)
+    ∷ (has_too_many_vertices (vertices_of_form form) (vertex_count (relabelled id (reshaped form) page.tree)), fault.Full)
     ∷ []
 faults_of page (Scroll id x y) =
     (not (has_id page id), fault.Absent)

@@ -3,6 +3,7 @@ use Rattle.std.specs.Prelude.{ℕ, ◌+◌, max, List, [], ◌∷◌, ◌++◌, 
 use Rattle.std.specs.Option.{option_or}
 use Rattle.fractions.specs.declared.rect.Spot.{Spot}
 use Rattle.computed_style.specs.declared.style.Style.{Style}
+use Rattle.box_tree.specs.declared.form.Form.{Form}
 use Rattle.box_tree.specs.declared.kind.Kind.{Kind}
 use Rattle.box_tree.specs.declared.piece.Piece.{Piece}
 
@@ -13,6 +14,7 @@ pub record Label : Type 0 where
   pub style : Style
   pub anchor : Spot
   pub boxes : List Piece
+  pub form : Option Form
   pub scroll : Spot
   pub max : Spot
 

@@ -14,7 +14,7 @@ node_with (n ∷ nodes) id = if n.id == id then Some n else node_with nodes id
 
 -- what a node is apart from its place
 abbrev pub label_of : Node → Label
-label_of n = record { id = n.id; kind = n.kind; style = n.style; anchor = n.anchor; boxes = n.boxes; scroll = n.scroll; max = n.max }
+label_of n = record { id = n.id; kind = n.kind; style = n.style; anchor = n.anchor; boxes = n.boxes; form = n.form; scroll = n.scroll; max = n.max }
 
 -- a node, if it is there, as a tree before the others, where `below` makes the trees of its children
 abbrev pub tree_before : (List ℕ → Forest) → Option Node → Forest → Forest
@@ -53,4 +53,4 @@ with_children children n = record n { children = children }
 abbrev pub with_label : (Label → Label) → Node → Node
 with_label change n =
     let l = change (label_of n) in
-    record n { id = l.id; kind = l.kind; style = l.style; anchor = l.anchor; boxes = l.boxes; scroll = l.scroll; max = l.max }
+    record n { id = l.id; kind = l.kind; style = l.style; anchor = l.anchor; boxes = l.boxes; form = l.form; scroll = l.scroll; max = l.max }

@@ -7,6 +7,7 @@ pub mod Kept
 pub mod PageState
 pub mod ForestCode
 pub mod Planned
+pub mod Forms
 pub mod Suits
 pub mod SuitsBelow
 pub mod Totals

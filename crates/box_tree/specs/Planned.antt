@@ -9,7 +9,7 @@ use Rattle.box_tree.specs.declared.kind.Kind.{Kind}
 use Rattle.box_tree.specs.declared.piece.Piece.{Piece}
 use Rattle.box_tree.specs.declared.node.Node.{Node}
 use Rattle.box_tree.specs.declared.edit.Edit.{Edit}
-use Rattle.box_tree.specs.declared.edit.Edit.TheVariants.{Add, Remove, Move, Place, Restyle, Scroll, Resize, ScrollView}
+use Rattle.box_tree.specs.declared.edit.Edit.TheVariants.{Add, Remove, Move, Place, Restyle, Reshape, Scroll, Resize, ScrollView}
 use Rattle.box_tree.specs.declared.plan.Plan.{Plan}
 use Rattle.box_tree.specs.declared.plan.Change.{Change}
 use Rattle.box_tree.specs.declared.plan.Relocation.{Relocation}
@@ -17,7 +17,7 @@ use Rattle.box_tree.specs.declared.plan.Plan.TheVariants.{AddNode, RemoveNodes, 
 use Rattle.box_tree.specs.Forest.{Label, End, node_count, ids_in}
 use Rattle.box_tree.specs.Contents.{Contents, depth_below, new_label, node_at, node_of, tree_of}
 use Rattle.box_tree.specs.Change.{changed}
-use Rattle.box_tree.specs.Edited.{IsInRange, first_fault, ancestors_below, laid_out, restyled, scrolled_node}
+use Rattle.box_tree.specs.Edited.{IsInRange, first_fault, ancestors_below, laid_out, restyled, reshaped, scrolled_node}
 use Rattle.box_tree.specs.Kept.{with_children, with_label}
 use Rattle.box_tree.specs.Nodes.{changed_at}
 use Rattle.box_tree.specs.PageState.{PageState}
@@ -131,6 +131,7 @@ IsPlanFor (RemoveNodes parent siblings ids gone) (Remove id) page = IsRemovePlan
 IsPlanFor (MoveNodes place siblings children ids) (Move id parent at) page = IsMovePlan page.contents id parent at place siblings children ids
 IsPlanFor (ChangeNode id' change) (Place id anchor boxes max) page = IsChangePlan page.contents id (laid_out anchor boxes max) id' change
 IsPlanFor (ChangeNode id' change) (Restyle id style) page = IsChangePlan page.contents id (restyled style) id' change
+IsPlanFor (ChangeNode id' change) (Reshape id form) page = IsChangePlan page.contents id (reshaped form) id' change
 IsPlanFor (ChangeNode id' change) (Scroll id x y) page = IsChangePlan page.contents id (scrolled_node x y) id' change
 IsPlanFor (ResizeViewport w' h' max') (Resize w h max) page = IsResizePlan w h max w' h' max'
 IsPlanFor (ScrollViewport to) (ScrollView x y) page = IsScrollViewPlan x y to

@@ -5,6 +5,8 @@ use Rattle.computed_style.specs.declared.style.Style.{Style}
 use Rattle.computed_style.specs.Defaults.{is_empty}
 use Rattle.box_tree.specs.declared.kind.Kind.{Kind}
 use Rattle.box_tree.specs.declared.kind.Kind.TheVariants.{Block, Inline, InlineBlock, Image, Svg, Text, Map, Area, Group, Shape, Inner}
+use Rattle.box_tree.specs.declared.form.Form.{Form}
+use Rattle.box_tree.specs.declared.form.Form.TheVariants.{Outline, Cover, View, Port, MapName}
 use Rattle.box_tree.specs.declared.piece.Piece.{Piece}
 use Rattle.box_tree.specs.Forest.{Label}
 
@@ -154,6 +156,21 @@ takes_scroll Area = false
 takes_scroll Group = false
 takes_scroll Shape = false
 takes_scroll Inner = false
+
+-- whether a node of a kind may be given a form: a shape its outline, an area what it covers, an svg its viewBox, an inner svg
+-- its viewport, and an image the name of its map
+abbrev pub takes_form : Kind → Form → Bool
+takes_form Image (MapName map) = true
+takes_form Svg (View view) = true
+takes_form Area (Cover area) = true
+takes_form Shape (Outline shape) = true
+takes_form Inner (Port port) = true
+takes_form kind form = false
+
+-- with which form a node of a kind may be: with none, or with one that it may be given
+abbrev pub form_suits : Kind → Option Form → Bool
+form_suits kind None = true
+form_suits kind (Some form) = takes_form kind form
 
 -- with which style a node of a kind may be: one that takes no style has the empty one
 abbrev pub style_suits : Kind → Style → Bool

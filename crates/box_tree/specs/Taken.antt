@@ -13,7 +13,7 @@ use Rattle.box_tree.specs.Forest.{roots_of, node_count}
 use Rattle.box_tree.specs.Kept.{node_with, with_children, with_label}
 use Rattle.box_tree.specs.Nodes.{changed_at}
 use Rattle.box_tree.specs.Planned.{times_in, moved_at, MayRelocateAll}
-use Rattle.box_tree.specs.Totals.{box_count}
+use Rattle.box_tree.specs.Totals.{sums_in}
 
 -- what is looked up of an id before an edit, by what is looked up after it
 abbrev pub back_at : Taken → ℕ → Option Node → Option Node
@@ -58,7 +58,7 @@ CanGoBack Untouched look count room HasPlace = Unit {0}
 
 -- what a page is beside its nodes
 pub record IsFrame (frame : Frame) (page : Contents) : Type 0 where
-  pub boxes : frame.boxes ≡ box_count page.tree
+  pub sums : frame.sums ≡ sums_in page.tree
   pub root : option_to_list frame.root ≡ roots_of page.tree
   pub viewport : frame.viewport ≡ page.viewport
   pub next : frame.next ≡ page.next

@@ -4,6 +4,8 @@ use Rattle.computed_style.specs.declared.style.Overflow.{Overflow}
 use Rattle.computed_style.specs.declared.style.Overflow.TheVariants.{Visible, Auto, Clip}
 use Rattle.computed_style.specs.declared.style.Position.{Position}
 use Rattle.computed_style.specs.declared.style.Position.TheVariants.{Static, Relative, Absolute, Fixed}
+use Rattle.box_tree.specs.declared.form.Form.{Form}
+use Rattle.box_tree.specs.declared.form.Form.TheVariants.{Outline, Cover, View, Port, MapName}
 use Rattle.box_tree.specs.declared.kind.Kind.{Kind}
 use Rattle.box_tree.specs.declared.kind.Kind.TheVariants.{Block, Inline, InlineBlock, Image, Svg, Text, Map, Area, Group, Shape, Inner}
 use Rattle.box_tree.specs.Forest.{Label}
@@ -154,12 +156,21 @@ cuts_off true (Some Clip) = true
 abbrev pub has_box : Label → Bool
 has_box n = nat_lt 0 (length n.boxes)
 
--- a node clips where its overflow isn't visible, it has a box, and it makes a viewport (SVG 2, 3.8) or is a block container
+-- whether a node has a viewport that its form gives (SVG 2, 8.2)
+abbrev pub gives_port : Option Form → Bool
+gives_port None = false
+gives_port (Some (Outline shape)) = false
+gives_port (Some (Cover area)) = false
+gives_port (Some (View view)) = false
+gives_port (Some (Port port)) = true
+gives_port (Some (MapName map)) = false
+
+-- a node clips where its overflow isn't visible, it has a box or its form gives its viewport, and it makes a viewport (SVG 2, 3.8) or is a block container
 -- other than the root (CSS 2.2, 11.1.1; the overflow of the root is that of the viewport)
 abbrev pub is_clipping : Option Label → Label → Bool
 is_clipping None n = false
 is_clipping (Some parent) n =
-    cuts_off (makes_viewport n.kind) n.style.overflow && (has_box n && (makes_viewport n.kind || is_block_container (Some parent) n))
+    cuts_off (makes_viewport n.kind) n.style.overflow && ((has_box n || gives_port n.form) && (makes_viewport n.kind || is_block_container (Some parent) n))
 
 -- not static (CSS 2.2, 9.3.2)
 abbrev pub takes_offsets : Position → Bool

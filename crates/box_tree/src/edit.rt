@@ -1,8 +1,9 @@
 ghost use Rattle.std.specs.Prelude.{◌≡◌, ◌↔◌, ◌≤ℤ◌, ◌^◌, pos, IsTrue};
 ghost use Rattle.box_tree.specs.declared.edit.EditFault.TheVariants.{OutOfMemory};
 ghost use Rattle.box_tree.specs.Contents.{IsWithin, IsSpotInRange, IsMaxInRange};
-ghost use Rattle.box_tree.specs.Edited.{IsId, IsAddInRange, IsPlaceInRange, IsRestyleInRange, IsScrollInRange, IsResizeInRange, IsScrollViewInRange, IsInRange, fault_number, fault_name};
+ghost use Rattle.box_tree.specs.Edited.{IsId, IsAddInRange, IsPlaceInRange, IsRestyleInRange, IsReshapeInRange, IsScrollInRange, IsResizeInRange, IsScrollViewInRange, IsInRange, fault_number, fault_name};
 
+use crate::form::Form;
 use crate::kind::Kind;
 use crate::piece::{MOST, PieceList, lies_between};
 use computed_style::Style;
@@ -47,6 +48,11 @@ pub enum Edit {
         id: u32,
         style: Style,
     },
+    /// The node gets this form in place of the one that it had.
+    Reshape {
+        id: u32,
+        form: Form,
+    },
     /// The node is scrolled to this position, within 2^26 units either way, each coordinate clamped between 0 and its
     /// greatest scroll. A scroll of a node that doesn't clip is kept too.
     Scroll {
@@ -84,6 +90,7 @@ impl Edit {
                 max,
             } => is_place_in_range(*id, *anchor, boxes, *max),
             Edit::Restyle { id, style } => is_restyle_in_range(*id, style),
+            Edit::Reshape { id, form } => is_reshape_in_range(*id, form),
             Edit::Scroll { id, x, y } => is_scroll_in_range(*id, *x, *y),
             Edit::Resize { w, h, max } => is_resize_in_range(*w, *h, *max),
             Edit::ScrollView { x, y } => is_scroll_view_in_range(*x, *y),
@@ -117,6 +124,13 @@ fn is_restyle_in_range(id: u32, style: &Style) -> bool
     ensures { IsTrue result ↔ IsRestyleInRange id style.now }
 {
     is_id(id) && style.in_range()
+}
+
+// Whether the numbers of a reshape are within their limits.
+fn is_reshape_in_range(id: u32, form: &Form) -> bool
+    ensures { IsTrue result ↔ IsReshapeInRange id form.now }
+{
+    is_id(id) && form.in_range()
 }
 
 // Whether the numbers of a scroll are within their limits.
@@ -240,6 +254,14 @@ impl From<AllocError> for EditFault {
     ghost from_gives = { λ _ fault. fault ≡ OutOfMemory };
 
     fn from(_error: AllocError) -> EditFault {
+        EditFault::OutOfMemory
+    }
+}
+
+impl From<svg_shapes::OutOfMemory> for EditFault {
+    ghost from_gives = { λ _ fault. fault ≡ OutOfMemory };
+
+    fn from(_error: svg_shapes::OutOfMemory) -> EditFault {
         EditFault::OutOfMemory
     }
 }

@@ -4,11 +4,13 @@
 //! carried out without taking memory, that the page is then the edited one of `specs/Edited.antt`, and that an edit can
 //! be taken back: then the page is the one before it.
 //! It tells what holds a node and what its used values are, by `specs/Containing.antt` and `specs/Used.antt`.
-//! It stands on `fractions` for its points and its counter of steps, and on `computed_style` for declared styles.
+//! It stands on `fractions` for its points and its counter of steps, on `computed_style` for declared styles, and on
+//! `svg_shapes`, `image_maps` and `view_boxes` for the forms of nodes.
 #![tactic(auto)]
 
 mod containing;
 mod edit;
+mod form;
 mod item;
 mod kind;
 mod node;
@@ -18,11 +20,13 @@ mod piece;
 mod plan;
 mod scroll;
 mod suits;
+mod sums;
 mod used;
 mod viewport;
 
 pub use containing::Holder;
 pub use edit::{Done, Edit, EditFault};
+pub use form::Form;
 pub use item::{Item, Part};
 pub use kind::Kind;
 pub use node::{Boxes, IdList, Node};

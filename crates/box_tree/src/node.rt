@@ -2,6 +2,7 @@ ghost use Rattle.std.specs.Prelude.{◌≡◌, ◌≤◌, length, IfOk};
 ghost use Rattle.std.specs.List.{insert};
 ghost use Rattle.box_tree.specs.Planned.{ids_without};
 
+use crate::form::Form;
 use crate::kind::Kind;
 use crate::piece::Piece;
 use computed_style::Style;
@@ -119,6 +120,8 @@ pub struct Node {
     /// Where the layout puts it, added to its space: within 2^26 units.
     pub anchor: Spot,
     pub boxes: Boxes,
+    /// None at first.
+    pub form: Option<Form>,
     /// How far it is scrolled, each coordinate from 0 to that of `max`.
     pub scroll: Spot,
     /// The greatest scroll, 0 to 2^26 units.

@@ -9,6 +9,7 @@ use crate::edit::{Done, Edit, EditFault};
 use crate::node::{Node, ORIGIN};
 use crate::nodes::Nodes;
 use crate::plan::{Frame, Plan, Prepared, Undo};
+use crate::sums::NOTHING;
 use crate::viewport::Viewport;
 use fractions::{Ledger, Steps};
 use std::alloc::Global;
@@ -21,6 +22,7 @@ mod changes;
 mod moves;
 mod places;
 mod removes;
+mod reshapes;
 mod resizes;
 mod restyles;
 mod reverts;
@@ -48,7 +50,7 @@ impl Model for Page {
 
     ghost view = { λ p. record { contents = page_of (node_with p.nodes.nodes) p.frame.root p.frame.viewport p.frame.next; room = p.nodes.room; ids = p.nodes.ids } };
 
-    ghost invariant = { λ p. IsCounted p.nodes p.frame.root p.frame.boxes (page_of (node_with p.nodes.nodes) p.frame.root p.frame.viewport p.frame.next) };
+    ghost invariant = { λ p. IsCounted p.nodes p.frame.root p.frame.sums (page_of (node_with p.nodes.nodes) p.frame.root p.frame.viewport p.frame.next) };
 }
 
 impl Page {
@@ -61,7 +63,7 @@ impl Page {
         Page {
             nodes: Nodes::new(alloc),
             frame: Frame {
-                boxes: 0,
+                sums: NOTHING,
                 root: None,
                 viewport: Viewport {
                     w,
@@ -148,6 +150,7 @@ impl Page {
                 max,
             } => self.plan_place(*id, *anchor, boxes, *max)?,
             Edit::Restyle { id, style } => self.plan_restyle(*id, style)?,
+            Edit::Reshape { id, form } => self.plan_reshape(*id, form)?,
             Edit::Scroll { id, x, y } => self.plan_scroll(*id, *x, *y)?,
             Edit::Resize { w, h, max } => self.plan_resize(*w, *h, *max),
             Edit::ScrollView { x, y } => self.plan_scroll_view(*x, *y),

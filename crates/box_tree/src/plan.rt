@@ -1,6 +1,8 @@
 use crate::edit::Edit;
+use crate::form::Form;
 use crate::node::{Boxes, IdList, Node};
 use crate::page::Page;
+use crate::sums::Sums;
 use crate::viewport::Viewport;
 use computed_style::Style;
 use fractions::Spot;
@@ -23,6 +25,7 @@ pub(crate) struct Layout {
 pub(crate) enum Change {
     Layout(Layout),
     Style(Style),
+    Form(Option<Form>),
     /// How far it is scrolled.
     Scroll(Spot),
 }
@@ -30,8 +33,8 @@ pub(crate) enum Change {
 /// What a page is beside its nodes.
 #[derive(Clone, Copy)]
 pub(crate) struct Frame {
-    /// How many boxes the nodes have.
-    pub(crate) boxes: usize,
+    /// How many boxes and vertices the nodes have.
+    pub(crate) sums: Sums,
     pub(crate) root: Option<u32>,
     pub(crate) viewport: Viewport,
     /// The id of the next node.

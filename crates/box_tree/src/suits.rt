@@ -1,9 +1,10 @@
 // What suits which kind of node, row by row as the tables of `specs/Suits.antt` have it.
 ghost use Rattle.std.specs.Prelude.{◌≡◌, None};
 ghost use Rattle.std.specs.Option.{option_copied};
-ghost use Rattle.box_tree.specs.Suits.{is_flow as flows, is_text as names_text, is_svg_content as names_svg_content, is_area as names_area, may_hold as holds, box_count_suits as count_suits, takes_place as is_placed, takes_style as is_styled, takes_scroll as is_scrolled, style_suits as suits_style};
+ghost use Rattle.box_tree.specs.Suits.{is_flow as flows, is_text as names_text, is_svg_content as names_svg_content, is_area as names_area, may_hold as holds, box_count_suits as count_suits, takes_place as is_placed, takes_style as is_styled, takes_form as is_formed, takes_scroll as is_scrolled, style_suits as suits_style};
 ghost use Rattle.box_tree.specs.SuitsBelow.{kind_suits_below, node_suits_below};
 
+use crate::form::Form;
 use crate::kind::Kind;
 use crate::node::Node;
 use crate::piece::PieceList;
@@ -171,6 +172,20 @@ pub(crate) fn takes_style(kind: Kind) -> bool
         | Kind::Shape
         | Kind::Inner => true,
         Kind::Text | Kind::Map | Kind::Area => false,
+    }
+}
+
+// Whether a node of a kind may be given a form.
+pub(crate) fn takes_form(kind: Kind, form: &Form) -> bool
+    ensures { result ≡ is_formed kind form.now }
+{
+    match (kind, form) {
+        (Kind::Image, Form::MapName(_)) => true,
+        (Kind::Svg, Form::View(_)) => true,
+        (Kind::Area, Form::Cover(_)) => true,
+        (Kind::Shape, Form::Outline(_)) => true,
+        (Kind::Inner, Form::Port(_)) => true,
+        _ => false,
     }
 }
 

@@ -2,9 +2,10 @@
 ghost use Rattle.std.specs.Prelude.{◌≡◌, nat_lt, length};
 ghost use Rattle.std.specs.Option.{option_map, option_copied};
 ghost use Rattle.box_tree.specs.Kept.{label_of};
-ghost use Rattle.box_tree.specs.Used.{cuts_off, has_box, may_float, makes_viewport, takes_out, takes_offsets, is_fixed_at, position_as, is_block_level_as, is_block_container_as, is_atomic_as, may_make_context, has_context_style};
+ghost use Rattle.box_tree.specs.Used.{cuts_off, has_box, may_float, makes_viewport, gives_port, takes_out, takes_offsets, is_fixed_at, position_as, is_block_level_as, is_block_container_as, is_atomic_as, may_make_context, has_context_style};
 ghost use Rattle.box_tree.specs.Used.{used_position, is_taken_out, is_floating, is_block_level, is_block_container, is_atomic, is_transformed, has_acting_transform, is_clipping, is_positioned, is_real_context, stack_level, is_in_flow};
 
+use crate::form::Form;
 use crate::kind::Kind;
 use crate::node::Node;
 use crate::suits::is_svg_content;
@@ -75,8 +76,8 @@ pub fn has_acting_transform(parent: Option<&Node>, node: &Node) -> bool
     is_transformed(parent, node) || (is_svg_content(node.kind) && has_transform(node))
 }
 
-/// Whether a node clips what it holds: its overflow isn't visible, it has a box, and it is an svg or a block container other
-/// than the root (CSS 2.2, 11.1.1; SVG 2, 3.8).
+/// Whether a node clips what it holds: its overflow isn't visible, it has a box (an inner svg its viewport), and it is an svg,
+/// an inner svg or a block container other than the root (CSS 2.2, 11.1.1; SVG 2, 3.8).
 pub fn is_clipping(parent: Option<&Node>, node: &Node) -> bool
     ensures { result ≡ is_clipping (option_map label_of (option_copied parent.entry)) (label_of node.now) }
 {
@@ -85,7 +86,8 @@ pub fn is_clipping(parent: Option<&Node>, node: &Node) -> bool
     }
     let viewport = makes_viewport(node.kind);
     cuts_off(viewport, node.style.overflow)
-        && (has_box(node) && (viewport || is_block_container(parent, node)))
+        && ((has_box(node) || gives_port(&node.form))
+            && (viewport || is_block_container(parent, node)))
 }
 
 /// Whether a node is positioned: its position isn't static (CSS 2.2, 9.3.2).
@@ -192,6 +194,16 @@ fn has_box(node: &Node) -> bool
     ensures { result ≡ has_box (label_of node.now) }
 {
     node.boxes.count() > 0
+}
+
+// Whether a form gives a viewport.
+fn gives_port(form: &Option<Form>) -> bool
+    ensures { result ≡ gives_port form.now }
+{
+    match form {
+        Some(Form::Port(_)) => true,
+        Some(Form::Outline(_) | Form::Cover(_) | Form::View(_) | Form::MapName(_)) | None => false,
+    }
 }
 
 // Whether a position isn't static.

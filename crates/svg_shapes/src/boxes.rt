@@ -3,6 +3,7 @@ ghost use Rattle.std.specs.List.{All};
 ghost use Rattle.svg_shapes.specs.Measures.{IsBoxMeasured};
 ghost use Rattle.svg_shapes.specs.Boxes.{InBox, InBoxes};
 
+use crate::measures::is_box_measured;
 use poly_shapes::OutOfMemory;
 use std::marker::Model;
 
@@ -51,6 +52,13 @@ impl FineBoxes {
         ensures { IfOk result (λ copied. copied ≡ self.now) }
     {
         Ok(FineBoxes(self.0.clone()?))
+    }
+
+    /// Whether each box is within the limits.
+    pub(crate) fn in_range(&self) -> bool
+        ensures { IsTrue result ↔ All IsBoxMeasured self.now }
+    {
+        self.0.iter().all(|measured| is_box_measured(*measured))
     }
 
     /// Two for each box, but no more than 4,294,967,295.

@@ -12,6 +12,7 @@ mod boxes;
 mod ellipse;
 mod extent;
 pub mod laws;
+mod measures;
 mod rect;
 mod shape;
 

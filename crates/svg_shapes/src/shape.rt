@@ -8,6 +8,7 @@ ghost use Rattle.svg_shapes.specs.Shapes.{IsMeasured, Interior, Perimeter, base_
 use crate::boxes::{FineBox, FineBoxes};
 use crate::ellipse::Ellipse;
 use crate::extent::{boxes_extent, ellipse_extent, line_extent, rect_extent};
+use crate::measures::{is_ellipse_measured, is_line_placed, is_rect_measured};
 use crate::rect::{in_rect, on_rect};
 use poly_shapes::laws::{
     bounds_hold_their_points, no_fill_reaches_out_of_the_bounds,
@@ -73,6 +74,20 @@ impl Shape {
             &Shape::Circle { cx, cy, r } => Shape::Circle { cx, cy, r },
             &Shape::Ellipse { cx, cy, rx, ry } => Shape::Ellipse { cx, cy, rx, ry },
         })
+    }
+
+    /// Whether its numbers are within their limits: places within 2^26 fine units, sizes and radii from 0 to 2^26.
+    pub fn in_range(&self) -> bool
+        ensures { IsTrue result ↔ IsMeasured self.now }
+    {
+        match self {
+            Shape::Path(_) | Shape::Polygon(_) | Shape::Polyline(_) => true,
+            &Shape::Line { x1, y1, x2, y2 } => is_line_placed(x1, y1, x2, y2),
+            &Shape::Rect { x, y, w, h, rx, ry } => is_rect_measured(FineBox { x, y, w, h }, rx, ry),
+            &Shape::Circle { cx, cy, r } => is_ellipse_measured(cx, cy, r, r),
+            &Shape::Ellipse { cx, cy, rx, ry } => is_ellipse_measured(cx, cy, rx, ry),
+            Shape::Boxes(boxes) => boxes.in_range(),
+        }
     }
 
     /// How many vertices the shape counts for: the points of a path, a polygon or a polyline, 2 for a line, 2 for each

@@ -20,6 +20,7 @@ use crate::nodes::Nodes;
 use crate::piece::PieceList;
 use crate::plan::{Frame, Plan, Taken};
 use crate::suits::node_suits;
+use crate::sums::Sums;
 use computed_style::Style;
 use std::alloc::{AllocError, Global};
 use std::mem::replace;
@@ -130,6 +131,7 @@ impl Page {
             style: style.copy()?,
             anchor: ORIGIN,
             boxes: Boxes::from_pieces(alloc, &boxes.0)?,
+            form: None,
             scroll: ORIGIN,
             max: ORIGIN,
         };
@@ -157,17 +159,21 @@ impl Page {
     }
 }
 
-// The frame with a node more, which is the root where its parent is 0.
+// The frame with a node more, which has no form, and is the root where its parent is 0.
 fn frame_with(frame: Frame, id: u32, parent: u32, boxes: usize) -> Frame
     requires ids { frame.next < 2 ^ 32 - 1 }
-    requires boxes { frame.boxes + boxes ≤ 262144 }
-    ensures boxes { result.boxes ≡ boxes + frame.boxes }
+    requires boxes { frame.sums.boxes + boxes ≤ 262144 }
+    ensures boxes { result.sums.boxes ≡ boxes + frame.sums.boxes }
+    ensures vertices { result.sums.vertices ≡ frame.sums.vertices }
     ensures root { result.root ≡ (if parent == 0 then Some id else frame.root) }
     ensures viewport { result.viewport ≡ frame.viewport }
     ensures next { result.next ≡ frame.next + 1 }
 {
     Frame {
-        boxes: frame.boxes + boxes,
+        sums: Sums {
+            boxes: frame.sums.boxes + boxes,
+            vertices: frame.sums.vertices,
+        },
         root: if parent == 0 { Some(id) } else { frame.root },
         viewport: frame.viewport,
         next: frame.next + 1,

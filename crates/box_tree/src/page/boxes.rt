@@ -1,13 +1,14 @@
-// The numbers of nodes and boxes of the page, and their limits.
-ghost use Rattle.std.specs.Prelude.{◌≡◌, ◌+◌, ◌≤◌, true, length, sum_by};
-ghost use Rattle.std.specs.Option.{option_map_or, option_copied};
+// The numbers of nodes, boxes and vertices of the page, and their limits.
+ghost use Rattle.std.specs.Prelude.{◌≡◌, ◌+◌, ◌≤◌, true, length};
 ghost use Rattle.box_tree.specs.Contents.{has_id};
-ghost use Rattle.box_tree.specs.Edited.{has_too_many_boxes, is_full_for, relabelled, laid_out};
-ghost use Rattle.box_tree.specs.Totals.{box_count};
+ghost use Rattle.box_tree.specs.Edited.{has_too_many_boxes, has_too_many_vertices, is_full_for, relabelled, laid_out, reshaped};
+ghost use Rattle.box_tree.specs.Forms.{vertices_of_form};
+ghost use Rattle.box_tree.specs.Totals.{box_count, vertex_count};
 
 use super::Page;
-use crate::node::Node;
+use crate::form::Form;
 use crate::piece::PieceList;
+use crate::sums::sums_at;
 use fractions::Spot;
 
 // The greatest number of nodes at once.
@@ -22,13 +23,19 @@ const BOXES_OF_NODE: usize = 1024;
 // The greatest number of boxes of the page.
 const BOXES: usize = 262_144;
 
+// The greatest number of vertices of a form.
+const VERTICES_OF_FORM: usize = 4096;
+
+// The greatest number of vertices of the page.
+const VERTICES: usize = 1_048_576;
+
 impl Page {
     // Whether the page is full for one more node, with so many boxes.
     pub(super) fn is_full_for(&self, count: usize) -> bool
         ensures { result ≡ is_full_for self.now.contents count }
     {
         self.nodes.len() >= NODES
-            || (self.frame.next > IDS || has_too_many_boxes(count, self.frame.boxes))
+            || (self.frame.next > IDS || has_too_many_boxes(count, self.frame.sums.boxes))
     }
 
     // Whether a node that is placed has too many boxes, or the page then.
@@ -42,7 +49,17 @@ impl Page {
         requires { has_id self.now.contents id ≡ true }
         ensures { result ≡ has_too_many_boxes (length boxes.now) (box_count (relabelled id (laid_out _anchor boxes.now _max) self.now.contents.tree)) }
     {
-        has_too_many_boxes(boxes.0.len(), self.frame.boxes - boxes_of(self.find(id)))
+        let others = self.frame.sums.without(sums_at(self.find(id)));
+        has_too_many_boxes(boxes.0.len(), others.boxes)
+    }
+
+    // Whether the form that a node is given has too many vertices, or the page then.
+    pub(super) fn has_too_many_reshaped(&self, id: u32, form: &Form) -> bool
+        requires { has_id self.now.contents id ≡ true }
+        ensures { result ≡ has_too_many_vertices (vertices_of_form form.now) (vertex_count (relabelled id (reshaped form.now) self.now.contents.tree)) }
+    {
+        let others = self.frame.sums.without(sums_at(self.find(id)));
+        has_too_many_vertices(form.vertices() as usize, others.vertices)
     }
 }
 
@@ -54,24 +71,10 @@ fn has_too_many_boxes(count: usize, others: usize) -> bool
     count > BOXES_OF_NODE || count + others > BOXES
 }
 
-// How many boxes a node has, and 0 where there is none.
-pub(super) fn boxes_of(node: Option<&Node>) -> usize
-    ensures { result ≡ option_map_or (λ n. length n.boxes) (option_copied node.entry) 0 }
+// Whether a form with so many vertices has too many, or the page with those of the others.
+fn has_too_many_vertices(count: usize, others: usize) -> bool
+    requires { others ≤ 1048576 }
+    ensures { result ≡ has_too_many_vertices count (count + others) }
 {
-    match node {
-        Some(node) => node.boxes.count(),
-        None => 0,
-    }
-}
-
-// How many boxes these nodes have.
-pub(super) fn boxes_of_all(nodes: &Vec<Node>) -> usize
-    requires { sum_by (λ n. length n.boxes) nodes.now.items ≤ 262144 }
-    ensures { result ≡ sum_by (λ n. length n.boxes) nodes.now.items }
-{
-    let mut count = 0;
-    for node in nodes {
-        count += node.boxes.count();
-    }
-    count
+    count > VERTICES_OF_FORM || count + others > VERTICES
 }

@@ -11,11 +11,11 @@ ghost use Rattle.box_tree.specs.declared.plan.Change.TheVariants.{Layout as Layo
 ghost use Rattle.box_tree.specs.declared.plan.Plan.TheVariants.{ChangeNode};
 
 use super::Page;
-use super::boxes::boxes_of;
 use crate::edit::Edit;
 use crate::node::Node;
 use crate::nodes::Nodes;
 use crate::plan::{Change, Layout, Taken};
+use crate::sums::sums_at;
 use std::mem::replace;
 use std::snapshot::Snapshot;
 
@@ -28,9 +28,9 @@ impl Page {
         ensures taken { IsTaken result self.old.contents self.new.contents self.new.room }
         ensures answer { answer_by result ≡ answer_of self.old.contents edit.now.value }
     {
-        let others = self.frame.boxes - boxes_of(self.nodes.find(id));
+        let others = self.frame.sums.without(sums_at(self.nodes.find(id)));
         let change = change_node(&mut self.nodes, id, change);
-        self.frame.boxes = others + boxes_of(self.nodes.find(id));
+        self.frame.sums = others.with(sums_at(self.nodes.find(id)));
         Taken::Changed { id, change }
     }
 }
@@ -57,6 +57,7 @@ fn exchange(node: &mut Node, change: Change) -> Change
     match change {
         Change::Layout(layout) => Change::Layout(exchange_layout(node, layout)),
         Change::Style(style) => Change::Style(replace(&mut node.style, style)),
+        Change::Form(form) => Change::Form(replace(&mut node.form, form)),
         Change::Scroll(scroll) => Change::Scroll(replace(&mut node.scroll, scroll)),
     }
 }

@@ -13,11 +13,11 @@ ghost use Rattle.box_tree.specs.declared.plan.Plan.TheVariants.{RemoveNodes};
 
 use super::Page;
 use super::adds::give_children;
-use super::boxes::boxes_of_all;
 use crate::edit::{Edit, EditFault};
 use crate::node::{IdList, Node};
 use crate::nodes::Nodes;
 use crate::plan::{Plan, Taken};
+use crate::sums::sums_of_all;
 use std::alloc::{AllocError, Global};
 use std::snapshot::Snapshot;
 
@@ -62,7 +62,7 @@ impl Page {
         let siblings = give_children(&mut self.nodes, parent, siblings);
         let mut nodes = gone;
         take_all(&mut self.nodes, ids, &mut nodes);
-        self.frame.boxes -= boxes_of_all(&nodes);
+        self.frame.sums = self.frame.sums.without(sums_of_all(&nodes));
         self.frame.root = root_without(self.frame.root, parent);
         Taken::Removed {
             parent,

@@ -36,7 +36,7 @@ carried c =
     planned-add c.self.inside.nodes c.self.inside.frame c.self.invariant c.args.node c.args.siblings c.args.edit.now.value c.give_children-siblings.new.nodes c.put.new.self c.frame_with-self-inside.result c.give_children-siblings.result
     (subst (λ (page : PageState). IsPlanned (AddNode c.args.node c.args.siblings) c.args.edit.now.value page) (sym c.self.view_is) c.requires)
     c.give_children-siblings.ensures.changed c.give_children-siblings.ensures.had put.looked_up put.count put.room put.ids
-    (frame.boxes ∙ ap (λ count. count + c.self.inside.frame.boxes) c.count.ensures) frame.root frame.viewport frame.next
+    (frame.boxes ∙ ap (λ count. count + c.self.inside.frame.sums.boxes) c.count.ensures) frame.vertices frame.root frame.viewport frame.next
 
 pub invariant_of-self : goal.invariant_of-self
 invariant_of-self c = (carried c).means.counted

@@ -6,7 +6,7 @@ use mir.Val.{to_z, of_z}
 use Rattle.box_tree.specs.Contents.{empty_page}
 use Rattle.box_tree.specs.Forest.{node_count}
 use Rattle.box_tree.specs.Kept.{node_with}
-use Rattle.box_tree.specs.Totals.{box_count}
+use Rattle.box_tree.specs.Totals.{sums_in}
 use Rattle.box_tree.proofs.KeptPages.{grown-none, page_of-kept, kept-page_of, empty-kept}
 use Rattle.box_tree.proofs.page.Page.new.Goals as goal
 
@@ -17,7 +17,7 @@ invariant_of-result c =
     record {
       kept = rw (c.new.ensures, w_is, h_is) (kept-page_of (node_with []) None (empty_page c.args.w c.args.h) (empty-kept c.args.w c.args.h c.requires.width c.requires.height));
       count = rw c.new.ensures (sym (ap node_count (grown-none 256 (node_with []))));
-      boxes_are = rw c.new.ensures (sym (ap box_count (grown-none 256 (node_with []))));
+      sums_are = rw c.new.ensures (sym (ap sums_in (grown-none 256 (node_with []))));
       fits = rw c.new.ensures (omega arith);
       placed = λ id positive below. absurd (omega (arith, positive, below));
     }

@@ -2,11 +2,13 @@
 use Rattle.std.proofs.Common.{◌-◌, refl, sym, ap, ◌∙◌, subst, arith}
 use Rattle.box_tree.specs.declared.plan.Plan.TheVariants.{RemoveNodes}
 use Rattle.box_tree.specs.declared.plan.Taken.TheVariants.{Removed}
+use Rattle.box_tree.specs.declared.sums.Sums.{Sums}
 use Rattle.box_tree.specs.Edited.{edited, answer_of}
 use Rattle.box_tree.specs.PageState.{PageState}
 use Rattle.box_tree.specs.Planned.{IsPlanned}
+use Rattle.box_tree.specs.Totals.{sums_less}
 use Rattle.box_tree.proofs.PlanLemmas.{state_of, Carries, taken_as}
-use Rattle.box_tree.proofs.RemoveLemmas.{CanTake, can_take, boxes_fit, boxes_few, planned-remove}
+use Rattle.box_tree.proofs.RemoveLemmas.{CanTake, can_take, SumsGo, sums_go, planned-remove}
 use Rattle.box_tree.proofs.page.Page.remove.Goals as goal
 
 can : (c : goal.After-nodes-1) → CanTake c.self.inside.nodes c.self.inside.frame c.self.invariant c.args.parent c.args.siblings c.args.ids.now c.args.gone c.give_children-siblings.new.nodes
@@ -25,27 +27,38 @@ take_all-requires-clause-none c = (can c).none
 pub take_all-requires-clause-room : goal.take_all-requires-clause-room
 take_all-requires-clause-room c = (can c).room
 
-pub boxes_of_all-requires : goal.boxes_of_all-requires
-boxes_of_all-requires c = boxes_few c.self.inside.nodes c.self.inside.frame c.self.invariant c.args.parent c.args.siblings c.args.ids.now c.args.gone c.give_children-siblings.new.nodes c.take_all.new.nodes c.take_all.new.gone
+go : (c : goal.After-nodes-2-1) → SumsGo c.self.inside.nodes c.self.inside.frame c.self.invariant c.args.parent c.args.siblings c.args.ids.now c.args.gone c.give_children-siblings.new.nodes c.take_all.new.nodes c.take_all.new.gone
+    c.give_children-siblings.ensures.changed c.take_all.ensures.looked_up c.take_all.ensures.count c.take_all.ensures.same_room c.take_all.ensures.ids c.take_all.ensures.nodes
+go c = sums_go c.self.inside.nodes c.self.inside.frame c.self.invariant c.args.parent c.args.siblings c.args.ids.now c.args.gone c.give_children-siblings.new.nodes c.take_all.new.nodes c.take_all.new.gone
     c.give_children-siblings.ensures.changed c.take_all.ensures.looked_up c.take_all.ensures.count c.take_all.ensures.same_room c.take_all.ensures.ids c.take_all.ensures.nodes
     c.args.edit.now.value (subst (λ (page : PageState). IsPlanned (RemoveNodes c.args.parent c.args.siblings c.args.ids.now c.args.gone) c.args.edit.now.value page) (sym c.self.view_is) c.requires)
 
-pub overflow_sub-self : goal.overflow_sub-self
-overflow_sub-self c = omega (
-  arith,
-  c.boxes_of_all.ensures,
-  boxes_fit c.self.inside.nodes c.self.inside.frame c.self.invariant c.args.parent c.args.siblings c.args.ids.now c.args.gone c.give_children-siblings.new.nodes c.take_all.new.nodes c.take_all.new.gone
-      c.give_children-siblings.ensures.changed c.take_all.ensures.looked_up c.take_all.ensures.count c.take_all.ensures.same_room c.take_all.ensures.ids c.take_all.ensures.nodes
-      c.args.edit.now.value (subst (λ (page : PageState). IsPlanned (RemoveNodes c.args.parent c.args.siblings c.args.ids.now c.args.gone) c.args.edit.now.value page) (sym c.self.view_is) c.requires),
-)
+pub sums_of_all-requires-clause-boxes : goal.sums_of_all-requires-clause-boxes
+sums_of_all-requires-clause-boxes c = let fit = go c in omega (arith, fit.boxes, fit.few_boxes)
 
-carried : (c : goal.After-self-2-1) → Carries c.take_all.new.nodes (record c.self.inside.frame { boxes = c.self.inside.frame.boxes - c.boxes_of_all.result; root = c.root_without-self-inside.result }) (Removed c.args.parent c.give_children-siblings.result c.take_all.new.gone) (state_of c.self.inside.nodes c.self.inside.frame) c.args.edit.now.value
+pub sums_of_all-requires-clause-vertices : goal.sums_of_all-requires-clause-vertices
+sums_of_all-requires-clause-vertices c = let fit = go c in omega (arith, fit.vertices, fit.few_vertices)
+
+-- and so once they were added up
+gone : (c : goal.After-sums_of_all) → SumsGo c.self.inside.nodes c.self.inside.frame c.self.invariant c.args.parent c.args.siblings c.args.ids.now c.args.gone c.give_children-siblings.new.nodes c.take_all.new.nodes c.take_all.new.gone
+    c.give_children-siblings.ensures.changed c.take_all.ensures.looked_up c.take_all.ensures.count c.take_all.ensures.same_room c.take_all.ensures.ids c.take_all.ensures.nodes
+gone c = sums_go c.self.inside.nodes c.self.inside.frame c.self.invariant c.args.parent c.args.siblings c.args.ids.now c.args.gone c.give_children-siblings.new.nodes c.take_all.new.nodes c.take_all.new.gone
+    c.give_children-siblings.ensures.changed c.take_all.ensures.looked_up c.take_all.ensures.count c.take_all.ensures.same_room c.take_all.ensures.ids c.take_all.ensures.nodes
+    c.args.edit.now.value (subst (λ (page : PageState). IsPlanned (RemoveNodes c.args.parent c.args.siblings c.args.ids.now c.args.gone) c.args.edit.now.value page) (sym c.self.view_is) c.requires)
+
+pub without-self-inside-requires-clause-boxes : goal.without-self-inside-requires-clause-boxes
+without-self-inside-requires-clause-boxes c = omega (arith, ap (λ (sums : Sums). sums.boxes) c.sums_of_all.ensures, (gone c).boxes)
+
+pub without-self-inside-requires-clause-vertices : goal.without-self-inside-requires-clause-vertices
+without-self-inside-requires-clause-vertices c = omega (arith, ap (λ (sums : Sums). sums.vertices) c.sums_of_all.ensures, (gone c).vertices)
+
+carried : (c : goal.After-self-2-1) → Carries c.take_all.new.nodes (record c.self.inside.frame { sums = c.without-self-inside.result; root = c.root_without-self-inside.result }) (Removed c.args.parent c.give_children-siblings.result c.take_all.new.gone) (state_of c.self.inside.nodes c.self.inside.frame) c.args.edit.now.value
 carried c =
     planned-remove c.self.inside.nodes c.self.inside.frame c.self.invariant c.args.parent c.args.siblings c.args.ids.now c.args.gone c.give_children-siblings.new.nodes c.take_all.new.nodes c.take_all.new.gone
     c.give_children-siblings.ensures.changed c.take_all.ensures.looked_up c.take_all.ensures.count c.take_all.ensures.same_room c.take_all.ensures.ids c.take_all.ensures.nodes
-    c.args.edit.now.value (record c.self.inside.frame { boxes = c.self.inside.frame.boxes - c.boxes_of_all.result; root = c.root_without-self-inside.result }) c.give_children-siblings.result
+    c.args.edit.now.value (record c.self.inside.frame { sums = c.without-self-inside.result; root = c.root_without-self-inside.result }) c.give_children-siblings.result
     (subst (λ (page : PageState). IsPlanned (RemoveNodes c.args.parent c.args.siblings c.args.ids.now c.args.gone) c.args.edit.now.value page) (sym c.self.view_is) c.requires)
-    c.give_children-siblings.ensures.had (ap (λ k. c.self.inside.frame.boxes - k) c.boxes_of_all.ensures) c.root_without-self-inside.ensures refl refl
+    c.give_children-siblings.ensures.had (c.without-self-inside.ensures ∙ ap (sums_less c.self.inside.frame.sums) c.sums_of_all.ensures) c.root_without-self-inside.ensures refl refl
 
 pub invariant_of-self : goal.invariant_of-self
 invariant_of-self c = (carried c).means.counted
