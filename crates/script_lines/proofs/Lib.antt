@@ -1,2 +1,3 @@
 pub mod Keeping
 pub mod Meanings
+pub mod PointLemmas

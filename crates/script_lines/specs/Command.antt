@@ -12,11 +12,12 @@ use Rattle.computed_style.specs.declared.style.Style.{Style}
 use Rattle.box_tree.specs.declared.kind.Kind.{Kind}
 use Rattle.box_tree.specs.declared.kind.Kind.TheVariants as kind
 use Rattle.box_tree.specs.declared.piece.Piece.{Piece}
-use Rattle.box_tree.specs.declared.edit.Edit.TheVariants.{Add, Remove, Move, Place, Restyle, Scroll, ScrollView, Resize}
+use Rattle.box_tree.specs.declared.edit.Edit.TheVariants.{Add, Remove, Move, Place, Restyle, Reshape, Scroll, ScrollView, Resize}
 use Rattle.box_tree.specs.Edited.{IsInRange}
 use Rattle.box_tree.specs.Contents.{IsWithin}
 use Rattle.script_lines.specs.Numbers.{◌>>=◌, number_within, coordinate, side, number_to, is_array_of, is_object_of}
 use Rattle.script_lines.specs.Style.{style_of}
+use Rattle.script_lines.specs.Forms.{form_of}
 use Rattle.script_lines.specs.declared.command.Command.{Command}
 use Rattle.script_lines.specs.declared.command.Command.TheVariants.{Edit, Hit, Top, Point, Refresh}
 use Rattle.script_lines.specs.declared.command.LineFault.{LineFault}
@@ -168,6 +169,16 @@ restyle_fields d = do
 unfoldable pub restyle_of : Data → Option Command
 restyle_of d = if is_object_of 3 d then restyle_fields d else None
 
+abbrev pub reshape_fields : Data → Option Command
+reshape_fields d = do
+  id ← get (codes "id") d >>= id_of
+  form ← get (codes "shape") d >>= form_of
+  Some (Edit (Reshape id form))
+
+-- the row of `shape`, its keys in any order and no other key
+unfoldable pub reshape_of : Data → Option Command
+reshape_of d = if is_object_of 3 d then reshape_fields d else None
+
 abbrev pub resize_fields : Data → Option Command
 resize_fields d = do
   w ← get (codes "w") d >>= viewport_side
@@ -224,6 +235,7 @@ row_named op d =
     else if bytes_eq op (codes "move") then move_of d
     else if bytes_eq op (codes "place") then place_of d
     else if bytes_eq op (codes "style") then restyle_of d
+    else if bytes_eq op (codes "shape") then reshape_of d
     else if bytes_eq op (codes "scroll") then scroll_of d
     else if bytes_eq op (codes "scrollview") then scroll_view_of d
     else if bytes_eq op (codes "resize") then resize_of d

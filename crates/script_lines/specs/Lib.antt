@@ -1,6 +1,7 @@
 pub mod Areas
 pub mod Blank
 pub mod Command
+pub mod Forms
 pub mod Inherited
 pub mod Numbers
 pub mod Reply

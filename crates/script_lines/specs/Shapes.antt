@@ -9,6 +9,7 @@ use Rattle.poly_shapes.specs.Outline.{Outline}
 use Rattle.svg_shapes.specs.declared.boxes.FineBox.{FineBox}
 use Rattle.svg_shapes.specs.declared.shape.Shape.{Shape}
 use Rattle.svg_shapes.specs.declared.shape.Shape.TheVariants.{Path, Polygon, Polyline, Line, Rect, Circle, Ellipse, Boxes}
+use Rattle.script_lines.specs.declared.paths.Subpath.{Subpath}
 use Rattle.script_lines.specs.Numbers.{◌>>=◌, coordinate, side, number_to, is_array_of}
 
 -- two places, from a member of an array on
@@ -39,11 +40,6 @@ each_point (item x (item y more)) = do
   point ← point_at x y
   points ← each_point more
   Some (point ∷ points)
-
--- a subpath: whether it is closed, and its points
-pub record Subpath : Type 0 where
-  pub closed : Bool
-  pub points : List Point
 
 -- the items of a subpath, which are 1 where it is closed and else 0, and then its points
 abbrev pub subpath_items : Items → Option Subpath

@@ -7,7 +7,9 @@
 
 mod areas;
 mod command;
+mod forms;
 mod inherited;
+mod paths;
 mod reply;
 mod rows;
 mod shapes;

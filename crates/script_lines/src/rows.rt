@@ -4,9 +4,10 @@ ghost use Rattle.serde_json.specs.View.{view};
 ghost use Rattle.computed_style.specs.Ranges.{IsStyleInRange};
 ghost use Rattle.box_tree.specs.Contents.{IsSpotInRange, IsMaxInRange, IsWithin};
 ghost use Rattle.box_tree.specs.Edited.{IsId};
-ghost use Rattle.script_lines.specs.Command.{new_place, new_node, add_of, remove_of, move_of, layout, place_of, restyle_of, resize_of, point_fields, scroll_of, scroll_view_of, point_of, hit_of, top_of, pointer_of, refresh_of, command_reading, IsAskable};
+ghost use Rattle.script_lines.specs.Command.{new_place, new_node, add_of, remove_of, move_of, layout, place_of, restyle_of, reshape_of, resize_of, point_fields, scroll_of, scroll_view_of, point_of, hit_of, top_of, pointer_of, refresh_of, command_reading, IsAskable};
 
 use crate::command::Command;
+use crate::forms::form_from;
 use crate::style::style_from;
 use crate::values::{
     anchor_from, boxes_from, coordinate, id_from, is_object_of, kind_from, max_from, number_to,
@@ -146,6 +147,26 @@ fn restyle_from(alloc: Global, value: &Value) -> Result<Option<Command>, AllocEr
     Ok(Some(Command::Edit(Edit::Restyle { id, style })))
 }
 
+#[tactic(auto, unfolding(crate::specs::Command::reshape_of))]
+fn reshape_from(alloc: Global, value: &Value) -> Result<Option<Command>, AllocError>
+    ensures value { IfOk result (λ command. command ≡ reshape_of (view value.now)) }
+    ensures in_range { IfOk result (λ command. IfSome command IsAskable) }
+{
+    if !is_object_of(value, 3) {
+        return Ok(None);
+    }
+    let Some(id) = id_from(value.get("id")) else {
+        return Ok(None);
+    };
+    let Ok(found) = form_from(alloc, value.get("shape")) else {
+        return Err(AllocError);
+    };
+    let Some(form) = found else {
+        return Ok(None);
+    };
+    Ok(Some(Command::Edit(Edit::Reshape { id, form })))
+}
+
 #[tactic(auto, unfolding(crate::specs::Command::resize_of))]
 fn resize_from(value: &Value) -> Option<Command>
     ensures value { result ≡ resize_of (view value.now) }
@@ -251,6 +272,7 @@ pub fn command_from(alloc: Global, value: &Value) -> Result<Option<Command>, All
         Some("move") => Ok(move_from(value)),
         Some("place") => place_from(alloc, value),
         Some("style") => restyle_from(alloc, value),
+        Some("shape") => reshape_from(alloc, value),
         Some("scroll") => Ok(scroll_from(value)),
         Some("scrollview") => Ok(scroll_view_from(value)),
         Some("resize") => Ok(resize_from(value)),

@@ -37,7 +37,7 @@ pub(crate) fn sizes_from(value: &Value, k: usize) -> Option<(i64, i64)>
 }
 
 #[tactic(auto, unfolding(crate::specs::Shapes::line_of))]
-fn line_from(value: &Value) -> Option<Shape>
+pub(crate) fn line_from(value: &Value) -> Option<Shape>
     ensures value { result ≡ line_of (view value.now) }
     ensures in_range { IfSome result IsMeasured }
 {
@@ -50,7 +50,7 @@ fn line_from(value: &Value) -> Option<Shape>
 }
 
 #[tactic(auto, unfolding(crate::specs::Shapes::rect_of))]
-fn rect_from(value: &Value) -> Option<Shape>
+pub(crate) fn rect_from(value: &Value) -> Option<Shape>
     ensures value { result ≡ rect_of (view value.now) }
     ensures in_range { IfSome result IsMeasured }
 {
@@ -64,7 +64,7 @@ fn rect_from(value: &Value) -> Option<Shape>
 }
 
 #[tactic(auto, unfolding(crate::specs::Shapes::circle_of))]
-fn circle_from(value: &Value) -> Option<Shape>
+pub(crate) fn circle_from(value: &Value) -> Option<Shape>
     ensures value { result ≡ circle_of (view value.now) }
     ensures in_range { IfSome result IsMeasured }
 {
@@ -77,7 +77,7 @@ fn circle_from(value: &Value) -> Option<Shape>
 }
 
 #[tactic(auto, unfolding(crate::specs::Shapes::ellipse_of))]
-fn ellipse_from(value: &Value) -> Option<Shape>
+pub(crate) fn ellipse_from(value: &Value) -> Option<Shape>
     ensures value { result ≡ ellipse_of (view value.now) }
     ensures in_range { IfSome result IsMeasured }
 {
@@ -120,7 +120,7 @@ fn each_fine_box_from(alloc: Global, items: &[Value]) -> Result<Option<FineBoxes
 
 // The boxes of a text.
 #[tactic(auto, unfolding(crate::specs::Shapes::fine_boxes_of))]
-fn fine_boxes_from(alloc: Global, value: &Value) -> Result<Option<Shape>, AllocError>
+pub(crate) fn fine_boxes_from(alloc: Global, value: &Value) -> Result<Option<Shape>, AllocError>
     ensures value { IfOk result (λ shape. shape ≡ fine_boxes_of (view value.now)) }
     ensures in_range { IfOk result (λ shape. IfSome shape IsMeasured) }
 {
