@@ -1,3 +1,4 @@
+pub mod DrawingLemmas
 pub mod Keeping
 pub mod Meanings
 pub mod PointLemmas

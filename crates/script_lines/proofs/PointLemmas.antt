@@ -7,17 +7,17 @@ use Rattle.serde_json.specs.declared.value.Value.{Value}
 use Rattle.poly_shapes.specs.declared.point.Point.{Point}
 use Rattle.script_lines.specs.Shapes.{point_at, each_point}
 
-always-none : {A B : Type 0} (o : Option A) → option_and_then (λ (a : A). None {A = B}) o ≡ None
-always-none None = refl
-always-none (Some a) = refl
+always-none : {A B : Type 0} (f : A → Option B) (o : Option A) → ((a : A) → f a ≡ None) → option_and_then f o ≡ None
+always-none f None none = refl
+always-none f (Some a) none = none a
 
 -- an odd number of items is no points
 pub points-odd : (vs : List Value) → length vs % 2 ≡ 1 → each_point (items_view vs) ≡ None
 points-odd [] odd = absurd (omega arith)
 points-odd (v ∷ []) odd = refl
 points-odd (v ∷ w ∷ vs) odd =
-    ap (λ o. option_and_then (λ p. option_and_then (λ ps. Some (p ∷ ps)) o) (point_at (view v) (view w))) (points-odd vs (omega arith))
-    ∙ always-none (point_at (view v) (view w))
+    always-none (λ p. option_and_then (λ ps. Some (p ∷ ps)) (each_point (items_view vs))) (point_at (view v) (view w))
+    (λ p. ap (option_and_then (λ ps. Some (p ∷ ps))) (points-odd vs (omega arith)))
 
 module _ (vs : List Value) (k : ℕ) (d e : Value) (within : 2 * k + 1 < length vs) where
   abbrev rest : Option (List Point)

@@ -1,10 +1,11 @@
 // The outlines of straight lines that a JSON array spells: paths, polygons and polylines.
-ghost use Rattle.std.specs.Prelude.{◌≡◌, ◌+◌, ◌^◌, nat_le, IfOk, IfSome, IsTrue, Some, None, false, length, option_map, option_and_then};
+ghost use Rattle.std.specs.Prelude.{◌≡◌, ◌+◌, ◌≤◌, ◌^◌, nat_le, IfOk, IfSome, IsTrue, Some, None, false, length, option_map, option_and_then};
 ghost use Rattle.std.specs.List.{All};
 ghost use Rattle.serde_json.specs.Find.{as_array};
 ghost use Rattle.serde_json.specs.View.{view, items_view};
 ghost use Rattle.poly_shapes.specs.Segments.{IsPlaced};
 ghost use Rattle.poly_shapes.specs.Outline.{IsMeasured};
+ghost use Rattle.svg_shapes.specs.Shapes.{IsMeasured as IsShapeMeasured};
 ghost use Rattle.script_lines.specs.Shapes.{point_at, each_point, subpath_items, subpath_of, with_subpath, no_outline, each_subpath, path_of, polygon_of, polyline_of, one_subpath};
 
 use crate::values::{coordinate, is_array_of, number_to};
@@ -64,6 +65,7 @@ impl Drawing {
     }
 
     // One subpath more, where there is room for its points, which is the answer.
+    #[tactic(auto, unfolding(crate::specs::Shapes::with_subpath))]
     fn add(&mut self, subpath: &Subpath) -> Result<bool, AllocError>
         requires measured { IsMeasured self.old }
         requires placed { All IsPlaced subpath.now.points }
@@ -194,50 +196,72 @@ fn one_subpath_from(
     Ok(Some(drawing))
 }
 
-// The list in the second place of a row that has no other member but its name.
-fn listed(value: &Value) -> Option<&[Value]> {
-    if !is_array_of(value, 2) {
-        return None;
+// The outline of a list of subpaths.
+fn path_drawing(alloc: Global, found: Option<&Value>) -> Result<Option<Drawing>, AllocError>
+    ensures value { IfOk result (λ drawing. drawing
+        ≡ option_and_then (each_subpath no_outline) (option_and_then as_array (option_map (λ v. view v.now) found.entry))) }
+    ensures in_range { IfOk result (λ drawing. IfSome drawing IsMeasured) }
+{
+    match found.and_then(Value::as_array) {
+        Some(items) => each_subpath_from(alloc, items),
+        None => Ok(None),
     }
-    let items = value.get(1)?.as_array()?;
-    Some(items.as_slice())
+}
+
+// The outline of one list of points.
+fn subpath_drawing(
+    alloc: Global,
+    closed: bool,
+    found: Option<&Value>,
+) -> Result<Option<Drawing>, AllocError>
+    ensures value { IfOk result (λ drawing. drawing
+        ≡ option_and_then (one_subpath closed) (option_and_then as_array (option_map (λ v. view v.now) found.entry))) }
+    ensures in_range { IfOk result (λ drawing. IfSome drawing IsMeasured) }
+{
+    match found.and_then(Value::as_array) {
+        Some(items) => one_subpath_from(alloc, closed, items),
+        None => Ok(None),
+    }
 }
 
 #[tactic(auto, unfolding(crate::specs::Shapes::path_of))]
 pub(crate) fn path_from(alloc: Global, value: &Value) -> Result<Option<Shape>, OutOfMemory>
-    ensures { IfOk result (λ shape. shape ≡ path_of (view value.now)) }
+    ensures value { IfOk result (λ shape. shape ≡ path_of (view value.now)) }
+    ensures in_range { IfOk result (λ shape. IfSome shape IsShapeMeasured) }
 {
-    let Some(items) = listed(value) else {
+    if !is_array_of(value, 2) {
+        return Ok(None);
+    }
+    let Some(drawing) = path_drawing(alloc, value.get(1))? else {
         return Ok(None);
     };
-    match each_subpath_from(alloc, items)? {
-        Some(drawing) => Ok(Some(Shape::Path(drawing.poly(alloc)?))),
-        None => Ok(None),
-    }
+    Ok(Some(Shape::Path(drawing.poly(alloc)?)))
 }
 
 #[tactic(auto, unfolding(crate::specs::Shapes::polygon_of))]
 pub(crate) fn polygon_from(alloc: Global, value: &Value) -> Result<Option<Shape>, OutOfMemory>
-    ensures { IfOk result (λ shape. shape ≡ polygon_of (view value.now)) }
+    ensures value { IfOk result (λ shape. shape ≡ polygon_of (view value.now)) }
+    ensures in_range { IfOk result (λ shape. IfSome shape IsShapeMeasured) }
 {
-    let Some(items) = listed(value) else {
+    if !is_array_of(value, 2) {
+        return Ok(None);
+    }
+    let Some(drawing) = subpath_drawing(alloc, true, value.get(1))? else {
         return Ok(None);
     };
-    match one_subpath_from(alloc, true, items)? {
-        Some(drawing) => Ok(Some(Shape::Polygon(drawing.poly(alloc)?))),
-        None => Ok(None),
-    }
+    Ok(Some(Shape::Polygon(drawing.poly(alloc)?)))
 }
 
 #[tactic(auto, unfolding(crate::specs::Shapes::polyline_of))]
 pub(crate) fn polyline_from(alloc: Global, value: &Value) -> Result<Option<Shape>, OutOfMemory>
-    ensures { IfOk result (λ shape. shape ≡ polyline_of (view value.now)) }
+    ensures value { IfOk result (λ shape. shape ≡ polyline_of (view value.now)) }
+    ensures in_range { IfOk result (λ shape. IfSome shape IsShapeMeasured) }
 {
-    let Some(items) = listed(value) else {
+    if !is_array_of(value, 2) {
+        return Ok(None);
+    }
+    let Some(drawing) = subpath_drawing(alloc, false, value.get(1))? else {
         return Ok(None);
     };
-    match one_subpath_from(alloc, false, items)? {
-        Some(drawing) => Ok(Some(Shape::Polyline(drawing.poly(alloc)?))),
-        None => Ok(None),
-    }
+    Ok(Some(Shape::Polyline(drawing.poly(alloc)?)))
 }
