@@ -1,5 +1,5 @@
 -- Items in twos, as a loop takes them.
-use Rattle.std.proofs.Common.{◌≡◌, ℕ, zero, suc, ◌+◌, ◌*◌, ◌%◌, ◌<◌, ◌≤◌, List, [], ◌∷◌, ◌++◌, length, drop, get_or, Option, Some, None, option_map, refl, sym, ap, ◌∙◌, append_assoc, length-drop, arith}
+use Rattle.std.proofs.Common.{◌≡◌, ℕ, ◌+◌, ◌*◌, ◌%◌, ◌<◌, ◌≤◌, List, [], ◌∷◌, ◌++◌, length, drop, get_or, Option, Some, None, option_map, refl, sym, ap, ◌∙◌, append_assoc, length-drop, arith}
 use Rattle.std.specs.Option.{option_and_then}
 use Rattle.std.proofs.lemmas.List.{at_drop_more}
 use Rattle.serde_json.specs.View.{view, items_view}
@@ -41,14 +41,3 @@ module _ (vs : List Value) (k : ℕ) (d e : Value) (within : 2 * k + 1 < length 
       by_rest : (o : Option (List Point)) → option_map (λ more. (done ++ p ∷ []) ++ more) o ≡ option_map (λ more. done ++ more) (option_and_then (λ ps. Some (p ∷ ps)) o)
       by_rest None = refl
       by_rest (Some ps) = ap (λ (all : List Point). Some all) (append_assoc done (p ∷ []) ps)
-
-  pub points-stop : point_at (view (get_or vs (2 * k) d)) (view (get_or vs (2 * k + 1) e)) ≡ None → each_point (items_view (drop (2 * k) vs)) ≡ None
-  points-stop is = points-drop ∙ ap (λ o. option_and_then (λ q. option_and_then (λ ps. Some (q ∷ ps)) rest) o) is
-
--- at its end no two items are left
-points-short : (vs : List Value) → length vs ≡ 0 → each_point (items_view vs) ≡ Some []
-points-short [] none = refl
-points-short (v ∷ vs) none = absurd (omega arith)
-
-pub points-end : (vs : List Value) (k : ℕ) → length vs ≤ 2 * k → each_point (items_view (drop (2 * k) vs)) ≡ Some []
-points-end vs k all = points-short (drop (2 * k) vs) (simp length-drop (omega arith))

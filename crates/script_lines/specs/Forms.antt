@@ -1,6 +1,6 @@
 -- What a node has beside its boxes, as the JSON array of the key `shape` spells it: by the name that stands first (own
 -- format).
-use Rattle.std.specs.Prelude.{ℕ, if◌then◌else◌, Bool, is_some, List, codes, Option, Some, None, option_map, option_and_then}
+use Rattle.std.specs.Prelude.{ℕ, if◌then◌else◌, Bool, is_some, List, codes, Option, None, option_map}
 use Rattle.std.specs.Str.{bytes_eq}
 use Rattle.serde_json.specs.Data.{Data}
 use Rattle.serde_json.specs.Find.{at, as_str, as_array}

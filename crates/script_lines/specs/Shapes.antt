@@ -1,10 +1,9 @@
 -- The outline of a shape that a JSON array spells (own format; the names are those of SVG 2, "Basic Shapes" and "Paths").
 -- Places, sizes and radii are in fine units of 1/4096 px: places within 2^26, sizes and radii from 0 to 2^26.
-use Rattle.std.specs.Prelude.{ℕ, ◌+◌, ◌^◌, ℤ, nat_le, ◌==◌, Bool, true, false, if◌then◌else◌, List, [], ◌∷◌, ◌++◌, length, Option, Some, None, option_map, option_and_then}
+use Rattle.std.specs.Prelude.{ℕ, ◌+◌, ◌^◌, ℤ, nat_le, ◌==◌, Bool, true, false, if◌then◌else◌, List, [], ◌∷◌, ◌++◌, length, Option, Some, None, option_map}
 use Rattle.serde_json.specs.Data.{Data, Items, no_items, item}
 use Rattle.serde_json.specs.Find.{at, as_array}
 use Rattle.poly_shapes.specs.declared.point.Point.{Point}
-use Rattle.poly_shapes.specs.declared.point.Sub.{Sub}
 use Rattle.poly_shapes.specs.Outline.{Outline}
 use Rattle.svg_shapes.specs.declared.boxes.FineBox.{FineBox}
 use Rattle.svg_shapes.specs.declared.shape.Shape.{Shape}

@@ -1,6 +1,6 @@
 -- The viewBox and the viewport that a JSON array spells (own format; the names are those of SVG 2, 8.6 and 8.7). Places and
 -- sides are in fine units of 1/4096 px.
-use Rattle.std.specs.Prelude.{ℕ, ◌+◌, ℤ, if◌then◌else◌, List, codes, Option, Some, None, option_map, option_and_then}
+use Rattle.std.specs.Prelude.{ℕ, ◌+◌, if◌then◌else◌, List, codes, Option, Some, None, option_map}
 use Rattle.std.specs.Str.{bytes_eq}
 use Rattle.serde_json.specs.Data.{Data}
 use Rattle.serde_json.specs.Find.{at, as_str}

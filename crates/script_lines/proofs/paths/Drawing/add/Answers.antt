@@ -1,5 +1,5 @@
 -- What one subpath more makes is measured.
-use Rattle.std.proofs.Common.{rules, ◌≡◌, refl, sym, ap, ◌∙◌, arith}
+use Rattle.std.proofs.Common.{arith}
 use Rattle.std.proofs.lemmas.Grind.{common_steps}
 use Rattle.script_lines.specs.Shapes.{with_subpath}
 use Rattle.script_lines.proofs.DrawingLemmas.{measured-from}
