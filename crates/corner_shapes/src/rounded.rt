@@ -1,6 +1,7 @@
 ghost use Rattle.std.specs.Prelude.{◌≡◌, ◌+◌, ◌*◌, ◌^◌, ◌≤◌, ◌↔◌, ℤ, pos, ◌+ℤ◌, ◌-ℤ◌, ◌≤ℤ◌, ◌<ℤ◌, unsigned_abs, IsTrue, IfSome, SomeIff};
 ghost use Rattle.corner_shapes.specs.Radii.{IsLengthWithin, AreBothWithin, AreRadiiWithin};
 ghost use Rattle.corner_shapes.specs.Curve.{IsMeasured, AreBordersWithin, inner_radii, inner_corners, padding_curve, distance, FitsBoth, IsBetweenEdges, FitsTopLeft, FitsTopRight, FitsBottomRight, FitsBottomLeft, FitsCorners, InRounded};
+ghost use Rattle.corner_shapes.specs.Held.{in_rounded};
 
 use crate::ellipse::is_within_ellipse;
 use crate::radii::{Corners, Radii};
@@ -55,7 +56,8 @@ impl Rounded {
     /// CSS Backgrounds and Borders 3, "Corner Shaping" and "Corner Clipping".
     pub fn holds(&self, x: i128, y: i128) -> bool
         requires { IsMeasured self.now }
-        ensures { IsTrue result ↔ InRounded self.now x y }
+        ensures held { IsTrue result ↔ InRounded self.now x y }
+        ensures test { result ≡ in_rounded self.now x y }
     {
         let point = Point { x, y };
         self.has_between_edges(point) && self.fits_corners(point)

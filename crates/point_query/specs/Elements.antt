@@ -1,51 +1,45 @@
 -- Which elements lie under a point of the viewport (CSSOM View, `elementsFromPoint`).
-use Rattle.std.specs.Prelude.{ℕ, ◌+◌, ◌-◌, length, slice_get, List, [], ◌∷◌, ◌++◌, map, reverse, Option, Bool, false, not, ◌&&◌, if◌then◌else◌, ◌==◌, ℤ, pos, ◌+ℤ◌, ◌-ℤ◌, ◌*ℤ◌, int_le, int_lt}
+use Rattle.std.specs.Prelude.{ℕ, ◌-◌, length, slice_get, List, [], ◌∷◌, ◌++◌, map, reverse, Option, Bool, false, not, ◌&&◌, if◌then◌else◌, ◌==◌, ℤ, pos, int_le}
 use Rattle.std.specs.Option.{option_map_or}
 use Rattle.std.specs.List.{filter}
 use Rattle.computed_style.specs.declared.inherited.Inherited.{Inherited}
 use Rattle.computed_style.specs.PointerEvents.{box_is_target}
+use Rattle.corner_shapes.specs.Held.{in_rounded}
 use Rattle.box_tree.specs.declared.kind.Kind.{Kind}
 use Rattle.box_tree.specs.declared.kind.Kind.TheVariants.{Block, Inline, InlineBlock, Image, Text}
 use Rattle.box_tree.specs.declared.item.Item.{Item}
 use Rattle.box_tree.specs.declared.item.Part.{Part}
 use Rattle.box_tree.specs.declared.item.Part.TheVariants.{Box, Content, Outline}
-use Rattle.box_tree.specs.declared.piece.Piece.{Piece}
 use Rattle.box_tree.specs.declared.viewport.Viewport.{Viewport}
 use Rattle.box_tree.specs.Forest.{Label, roots_of}
 use Rattle.box_tree.specs.Contents.{Contents, placed_of, parent_id}
 use Rattle.spaces.specs.declared.space.FinePoint.{FinePoint}
-use Rattle.spaces.specs.Spaces.{top_border, right_border, bottom_border, left_border, local_point}
+use Rattle.spaces.specs.Spaces.{local_point}
 use Rattle.spaces.specs.Values.{values_below}
+use Rattle.scroll_clip.specs.Curves.{border_curve, padding_curve}
+use Rattle.scroll_clip.specs.Clips.{inside_clips}
 use Rattle.stacking.specs.Painting.{layer}
 use Rattle.stacking.specs.OnPage.{of_node}
 
--- whether a coordinate in fine units lies between two in units: from the first on, and before the second
-abbrev pub lies_between : ℤ → ℤ → ℤ → Bool
-lies_between from before at = int_le (pos 64 *ℤ from) at && int_lt at (pos 64 *ℤ before)
-
--- whether a border box holds a point: its left and top edges, and not its right and bottom ones
-abbrev pub box_holds : Piece → FinePoint → Bool
-box_holds box at = lies_between box.l (box.l +ℤ box.w) at.x && lies_between box.t (box.t +ℤ box.h) at.y
-
--- whether the padding box of a node with this border box holds a point: the border box without its borders (CSS 2.2, 8.1)
-abbrev pub padding_box_holds : Label → Piece → FinePoint → Bool
-padding_box_holds n box at =
-    lies_between (box.l +ℤ left_border n) ((box.l +ℤ box.w) -ℤ right_border n) at.x
-    && lies_between (box.t +ℤ top_border n) ((box.t +ℤ box.h) -ℤ bottom_border n) at.y
-
 -- The rows of admission, one for each sort of item: whether its area holds the local point of its node, and whether the
--- values of the node let it be a target (SVG 2, "The 'pointer-events' property"; CSS 2.2, 11.2). The area of a box is that
--- box, that of the content of an image the padding box of its box; outlines aren't painted yet.
+-- values of the node let it be a target (SVG 2, "The 'pointer-events' property"; CSS 2.2, 11.2). The area of a box is its
+-- rounded border box, that of the content of an image the padding curve of its box (CSS Backgrounds and Borders 3, "Corner
+-- Clipping"); outlines aren't painted yet.
 abbrev pub part_admits : Label → Inherited → FinePoint → Part → Bool
-part_admits n values at (Box place) = box_is_target values && option_map_or (λ box. box_holds box at) (slice_get n.boxes place) false
-part_admits n values at Content = box_is_target values && option_map_or (λ box. padding_box_holds n box at) (slice_get n.boxes 0) false
+part_admits n values at (Box place) =
+    box_is_target values && option_map_or (λ box. in_rounded (border_curve n box) at.x at.y) (slice_get n.boxes place) false
+part_admits n values at Content =
+    box_is_target values && option_map_or (λ box. in_rounded (padding_curve n box) at.x at.y) (slice_get n.boxes 0) false
 part_admits n values at Outline = false
 
--- whether an item is admitted at a point of the viewport: its row holds of its node, of what that inherits, and of its
--- local point
-abbrev pub admits : Contents → ℤ → ℤ → Item → Bool
-admits page x y item =
+-- whether the row of an item holds of its node, of what that inherits, and of its local point, where it has one
+abbrev pub row_holds : Contents → ℤ → ℤ → Item → Bool
+row_holds page x y item =
     option_map_or (λ p. option_map_or (λ at. part_admits p.label (values_below p.above p.label) at item.part) (local_point page item.node x y) false) (placed_of page item.node) false
+
+-- whether an item is admitted at a point of the viewport: its row holds, and the point lies inside the clips of its node
+abbrev pub admits : Contents → ℤ → ℤ → Item → Bool
+admits page x y item = row_holds page x y item && inside_clips page item.node x y
 
 -- the element of a node of this kind, by the ids of its parent and of itself: a text has that of its parent
 abbrev pub element_as : Kind → (parent own : ℕ) → ℕ

@@ -217,6 +217,8 @@ fn scripts_are_answered(rt: HostRuntime) -> Result<(), Fail> {
             scrolls::SCROLLED_BEFORE_IT_CLIPS,
             scrolls::SCROLLED_BEFORE_IT_CLIPS_REPLIES,
         ),
+        (scrolls::CLIPPED, scrolls::CLIPPED_REPLIES),
+        (scrolls::ROUNDED, scrolls::ROUNDED_REPLIES),
         (scrolls::REFUSED_SCROLLS, scrolls::REFUSED_SCROLLS_REPLIES),
         (maps::AT_THE_BOUND, maps::AT_THE_BOUND_REPLIES),
         (values::HIDDEN, values::HIDDEN_REPLIES),

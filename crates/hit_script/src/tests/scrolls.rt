@@ -1,4 +1,4 @@
-// Scrolled nodes and a scrolled viewport: scripts and their replies, worked out by hand.
+// Scrolled nodes, a scrolled viewport, and what clips: scripts and their replies, worked out by hand.
 
 /// A fixed node stays where it is while the viewport scrolls, and the page goes up.
 pub const FIXED_IN_A_SCROLLED_VIEWPORT: &[u8] =
@@ -71,3 +71,38 @@ pub const REFUSED_SCROLLS: &[u8] =
 
 pub const REFUSED_SCROLLS_REPLIES: &[u8] =
     b"node 1\nnode 2\nerr 4 absent\nerr 6 kind\nok\nerr 3 command\n";
+
+/// A node clips what has it among its containing blocks, so an absolute node escapes it until it is positioned. Its scroll
+/// is clamped, and its clip doesn't move with it.
+pub const CLIPPED: &[u8] =
+    br#"{"op":"add","parent":0,"at":0,"kind":"block","boxes":[[0,0,0,100,100]],"style":{}}
+{"op":"add","parent":1,"at":0,"kind":"block","boxes":[[0,10,10,40,40]],"style":{"overflow":"hidden"}}
+{"op":"add","parent":2,"at":0,"kind":"block","boxes":[[0,0,0,20,80]],"style":{}}
+{"op":"add","parent":2,"at":1,"kind":"block","boxes":[[0,60,0,20,90]],"style":{"position":"absolute"}}
+{"op":"place","id":2,"anchor":[0,0],"boxes":[[0,10,10,40,40]],"max":[0,40]}
+{"op":"scroll","id":2,"x":0,"y":30}
+{"op":"hit","x":15,"y":45}
+{"op":"hit","x":15,"y":55}
+{"op":"hit","x":65,"y":85}
+{"op":"hit","x":75,"y":45}
+{"op":"scroll","id":2,"x":0,"y":999}
+{"op":"hit","x":15,"y":49}
+{"op":"style","id":2,"style":{"overflow":"hidden","position":"relative"}}
+{"op":"hit","x":75,"y":45}
+"#;
+
+pub const CLIPPED_REPLIES: &[u8] =
+    b"node 1\nnode 2\nnode 3\nnode 4\nok\nok\nhit 3 2 1\nhit 1\nhit 4 1\nhit 4 1\nok\nhit 3 2 1\nok\nhit 1\n";
+
+/// The border box is rounded by the used radii, and clips by those of the padding curve.
+pub const ROUNDED: &[u8] =
+    br#"{"op":"add","parent":0,"at":0,"kind":"block","boxes":[[0,0,0,12800,12800]],"style":{}}
+{"op":"add","parent":1,"at":0,"kind":"block","boxes":[[0,0,0,6400,2560]],"style":{"overflow":"hidden","border":[640,640,640,640],"radii":[639936,639936,639936,639936,639936,639936,639936,639936]}}
+{"op":"add","parent":2,"at":0,"kind":"block","boxes":[[0,0,0,6400,2560]],"style":{}}
+{"op":"hit","x":374,"y":374}
+{"op":"hit","x":375,"y":375}
+{"op":"hit","x":827,"y":827}
+{"op":"hit","x":828,"y":828}
+"#;
+
+pub const ROUNDED_REPLIES: &[u8] = b"node 1\nnode 2\nnode 3\nhit 1\nhit 2 1\nhit 2 1\nhit 3 2 1\n";

@@ -1,27 +1,46 @@
--- The row of the item holds at the local point of its node, or doesn't.
+-- The row of the item holds at the local point of its node and the point is inside the clips, or not.
 use Rattle.std.proofs.Common.{◌≡◌, ℕ, [], ◌∷◌, Bool, if◌then◌else◌, sym, ap, ◌∙◌, arith}
+use Rattle.std.specs.Prelude.{◌&&◌}
 use Rattle.std.proofs.lemmas.Int.{ints}
 use mir.Syntax.{w64}
 use mir.Val.{to_z, of_z}
+use Rattle.scroll_clip.proofs.ClipLemmas.{curves-seen}
+use Rattle.scroll_clip.specs.Clips.{inside_clips}
 use Rattle.point_query.specs.Elements.{element_as}
 use Rattle.point_query.proofs.AdmissionLemmas.{elements_of-seen}
 use Rattle.point_query.proofs.admission.admitted_element.Goals as goal
 
-pub returns-then-admits_at : goal.returns-then-admits_at
-returns-then-admits_at g c =
-    let node = c.node-node.result.now in
-    let x_is : to_z w64 (of_z w64 c.args.x) ≡ c.args.x = omega (arith, ints) in
-    let y_is : to_z w64 (of_z w64 c.args.y) ≡ c.args.y = omega (arith, ints) in
-    let at_is = rw (x_is, y_is) at c.local_point-at.ensures in
-    sym (elements_of-seen c.args.page.now.contents c.args.x c.args.y c.args.item node c.local_point-at.result c.plain_values-values.result c.node-node.ensures.node (sym at_is) c.plain_values-values.ensures
-    ∙ ap (λ (held : Bool). if held then element_as node.kind node.parent node.id ∷ [] else []) (sym c.admits_at.ensures ∙ c.if-admits_at.true)
-    ∙ ap (λ (element : ℕ). element ∷ []) (sym c.element_of.ensures))
+pub admits_at-requires : goal.admits_at-requires
+admits_at-requires g c = curves-seen c.args.page.now.contents c.validity.ensures c.args.item.node c.node-node.result.now c.node-node.ensures.node
 
-pub returns-else-admits_at : goal.returns-else-admits_at
-returns-else-admits_at g c =
+pub returns-then-not-admits_at : goal.returns-then-not-admits_at
+returns-then-not-admits_at g c =
     let node = c.node-node.result.now in
     let x_is : to_z w64 (of_z w64 c.args.x) ≡ c.args.x = omega (arith, ints) in
     let y_is : to_z w64 (of_z w64 c.args.y) ≡ c.args.y = omega (arith, ints) in
     let at_is = rw (x_is, y_is) at c.local_point-at.ensures in
     sym (elements_of-seen c.args.page.now.contents c.args.x c.args.y c.args.item node c.local_point-at.result c.plain_values-values.result c.node-node.ensures.node (sym at_is) c.plain_values-values.ensures
-    ∙ ap (λ (held : Bool). if held then element_as node.kind node.parent node.id ∷ [] else []) (sym c.admits_at.ensures ∙ c.if-admits_at.false))
+    ∙ ap (λ (held : Bool). if held && inside_clips c.args.page.now.contents c.args.item.node c.args.x c.args.y then element_as node.kind node.parent node.id ∷ [] else []) (sym c.admits_at.ensures ∙ c.if-not-admits_at.true))
+
+pub returns-then-not-inside_clips : goal.returns-then-not-inside_clips
+returns-then-not-inside_clips g c =
+    let node = c.node-node.result.now in
+    let x_is : to_z w64 (of_z w64 c.args.x) ≡ c.args.x = omega (arith, ints) in
+    let y_is : to_z w64 (of_z w64 c.args.y) ≡ c.args.y = omega (arith, ints) in
+    let at_is = rw (x_is, y_is) at c.local_point-at.ensures in
+    let inside = rw (x_is, y_is) at c.inside_clips.ensures in
+    sym (elements_of-seen c.args.page.now.contents c.args.x c.args.y c.args.item node c.local_point-at.result c.plain_values-values.result c.node-node.ensures.node (sym at_is) c.plain_values-values.ensures
+    ∙ ap (λ (held : Bool). if held && inside_clips c.args.page.now.contents c.args.item.node c.args.x c.args.y then element_as node.kind node.parent node.id ∷ [] else []) (sym c.admits_at.ensures ∙ c.if-not-admits_at.false)
+    ∙ ap (λ (held : Bool). if held then element_as node.kind node.parent node.id ∷ [] else []) (sym inside ∙ c.if-not-inside_clips.true))
+
+pub returns : goal.returns
+returns g c =
+    let node = c.node-node.result.now in
+    let x_is : to_z w64 (of_z w64 c.args.x) ≡ c.args.x = omega (arith, ints) in
+    let y_is : to_z w64 (of_z w64 c.args.y) ≡ c.args.y = omega (arith, ints) in
+    let at_is = rw (x_is, y_is) at c.local_point-at.ensures in
+    let inside = rw (x_is, y_is) at c.inside_clips.ensures in
+    sym (elements_of-seen c.args.page.now.contents c.args.x c.args.y c.args.item node c.local_point-at.result c.plain_values-values.result c.node-node.ensures.node (sym at_is) c.plain_values-values.ensures
+    ∙ ap (λ (held : Bool). if held && inside_clips c.args.page.now.contents c.args.item.node c.args.x c.args.y then element_as node.kind node.parent node.id ∷ [] else []) (sym c.admits_at.ensures ∙ c.if-not-admits_at.false)
+    ∙ ap (λ (held : Bool). if held then element_as node.kind node.parent node.id ∷ [] else []) (sym inside ∙ c.if-not-inside_clips.false)
+    ∙ ap (λ (element : ℕ). element ∷ []) (sym c.element_of.ensures))

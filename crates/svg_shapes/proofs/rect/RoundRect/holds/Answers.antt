@@ -17,5 +17,5 @@ returns c =
     let fits_y : FitsSigned w128 c.args.y = c.ranges.y in
     let fits_twice_x = twice-fits c.args.x c.requires.x in
     let fits_twice_y = twice-fits c.args.y c.requires.y in
-    let tests = simp to_z-of_z at c.holds.ensures in
+    let tests = simp to_z-of_z at c.holds.ensures.held in
     subst (λ (box : Rounded). IsTrue c.holds.result ↔ InRounded box (twice c.args.x) (twice c.args.y)) c.rounded.ensures tests
