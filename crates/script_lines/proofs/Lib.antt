@@ -1,2 +1,4 @@
+pub mod DrawingLemmas
 pub mod Keeping
 pub mod Meanings
+pub mod PointLemmas

@@ -1,11 +1,10 @@
 -- What a line of a script asks for, as a function of its JSON reading (RFC 8259, as `serde_json` reads it). Lengths are in
 -- units of 1/64 px.
-use Rattle.std.specs.Prelude.{ℕ, ◌^◌, ◌&&◌, ◌==◌, nat_lt, if◌then◌else◌, ℤ, pos, negsuc, ◌+ℤ◌, int_le, unsigned_abs, Bool, false, List, [], ◌∷◌, length, codes, Option, Some, None, option_map, option_and_then, Result, Err}
-use Rattle.std.specs.Option.{option_map_or, ok_or}
+use Rattle.std.specs.Prelude.{ℕ, ◌^◌, ◌&&◌, nat_lt, if◌then◌else◌, ℤ, pos, negsuc, ◌+ℤ◌, int_le, unsigned_abs, Bool, List, [], ◌∷◌, length, codes, Option, Some, None, option_map, Result, Err}
+use Rattle.std.specs.Option.{ok_or}
 use Rattle.std.specs.Str.{bytes_eq, is_utf8}
 use Rattle.serde_json.specs.Data.{Data, Items, no_items, item}
-use Rattle.serde_json.specs.Events.{items_len, members_len}
-use Rattle.serde_json.specs.Find.{get, at, as_number, as_i64, as_str, as_array, as_object}
+use Rattle.serde_json.specs.Find.{get, at, as_str, as_array}
 use Rattle.serde_json.specs.Read.{read}
 use Rattle.fractions.specs.declared.rect.Spot.{Spot}
 use Rattle.computed_style.specs.declared.style.Style.{Style}

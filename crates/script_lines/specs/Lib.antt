@@ -5,5 +5,7 @@ pub mod Forms
 pub mod Inherited
 pub mod Numbers
 pub mod Reply
+pub mod Shapes
 pub mod Style
 pub mod Transform
+pub mod Views

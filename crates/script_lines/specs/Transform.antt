@@ -1,6 +1,6 @@
 -- The functions of a transform that a JSON array spells, and their origin (own format; the functions are those of CSS
 -- Transforms 1, "The Transform Functions", with fractions in the place of decimals). Lengths are in units of 1/64 px.
-use Rattle.std.specs.Prelude.{ℕ, ◌&&◌, ℤ, pos, negsuc, if◌then◌else◌, nat_le, Bool, List, [], ◌∷◌, codes, Option, Some, None, option_map, option_and_then, unsigned_abs}
+use Rattle.std.specs.Prelude.{ℕ, ℤ, pos, negsuc, if◌then◌else◌, nat_le, List, [], ◌∷◌, codes, Option, Some, None, option_map}
 use Rattle.std.specs.Str.{bytes_eq}
 use Rattle.serde_json.specs.Data.{Data, Items, no_items, item}
 use Rattle.serde_json.specs.Events.{items_len}

@@ -7,6 +7,8 @@ use mouse_events::{Event, EventKind};
 use std::alloc::Global;
 use std::process::Abort;
 use std::test::Fail;
+use svg_shapes::Shape;
+use view_boxes::{Align, Fit, Side, ViewBox};
 
 #[test]
 fn blank_lines_have_spaces_tabs_and_carriage_returns_alone(rt: HostRuntime) -> Result<(), Fail> {
@@ -157,10 +159,11 @@ fn kinds_have_their_names(rt: HostRuntime) -> Result<(), Fail> {
         (r#""inline""#, Some(Kind::Inline)),
         (r#""inline-block""#, Some(Kind::InlineBlock)),
         (r#""image""#, Some(Kind::Image)),
+        (r#""svg""#, None),
         (r#""text""#, Some(Kind::Text)),
         (r#""map""#, Some(Kind::Map)),
         (r#""area""#, Some(Kind::Area)),
-        (r#""svg""#, None),
+        (r#""shape""#, None),
         (r#""Block""#, None),
         (r#""""#, None),
         ("0", None),
@@ -684,46 +687,145 @@ fn formed(alloc: Global, shape: &str) -> Result<Option<Form>, Fail> {
     }
 }
 
-// What a form is: whether the point 5, 5 in units lies in an area, or the map that an image names.
-fn told(form: &Form) -> Option<(bool, u32)> {
+// What a form is, in words: its sort, its numbers, and of lists how many there are.
+fn told(form: &Form) -> (&'static str, [i64; 6], usize) {
     match form {
-        Form::Cover(area) => Some((area.covers(320, 320), 0)),
-        Form::MapName(map) => Some((false, *map)),
-        _ => None,
+        Form::Outline(Shape::Path(poly)) => ("path", [0; 6], poly.points().len()),
+        Form::Outline(Shape::Polygon(poly)) => ("polygon", [0; 6], poly.points().len()),
+        Form::Outline(Shape::Polyline(poly)) => ("polyline", [0; 6], poly.points().len()),
+        &Form::Outline(Shape::Line { x1, y1, x2, y2 }) => ("line", [x1, y1, x2, y2, 0, 0], 0),
+        &Form::Outline(Shape::Rect { x, y, w, h, rx, ry }) => ("rect", [x, y, w, h, rx, ry], 0),
+        &Form::Outline(Shape::Circle { cx, cy, r }) => ("circle", [cx, cy, r, 0, 0, 0], 0),
+        &Form::Outline(Shape::Ellipse { cx, cy, rx, ry }) => {
+            ("ellipse", [cx, cy, rx, ry, 0, 0], 0)
+        }
+        Form::Outline(Shape::Boxes(boxes)) => ("boxes", [0; 6], boxes.0.len()),
+        Form::Cover(_) => ("area", [0; 6], 0),
+        Form::View(None) => ("no view", [0; 6], 0),
+        Form::View(Some(view)) => ("view", [view.x, view.y, view.w, view.h, 0, 0], 0),
+        Form::Port(port) => ("port", [port.x, port.y, port.w, port.h, 0, 0], 0),
+        &Form::MapName(map) => ("map", [i64::from(map), 0, 0, 0, 0, 0], 0),
     }
 }
 
 #[test]
-fn areas_and_maps_have_their_forms(rt: HostRuntime) -> Result<(), Fail> {
+fn each_form_has_its_least_and_its_greatest_numbers(rt: HostRuntime) -> Result<(), Fail> {
     let alloc = rt.alloc();
     for (text, expected) in [
-        (r#"["rect",[0,0,10,10]]"#, Some((true, 0))),
-        (r#"["rect",[1048576,-1048576]]"#, Some((false, 0))),
-        (r#"["rect",[1048577,0,0,0]]"#, None),
-        (r#"["rect",0,0,10,10,0,0]"#, None),
-        (r#"["rect",[0,0,10,10],0]"#, None),
-        (r#"["circle",[5,5,1,99]]"#, Some((true, 0))),
-        (r#"["circle",[]]"#, Some((false, 0))),
+        (r#"["path",[]]"#, Some(("path", [0; 6], 0))),
+        (r#"["path",[[0],[1]]]"#, Some(("path", [0; 6], 0))),
+        (
+            r#"["path",[[1,-67108864,67108864,0,0],[0,1,2]]]"#,
+            Some(("path", [0; 6], 3)),
+        ),
+        (r#"["path",[[]]]"#, None),
+        (r#"["path",[[2,0,0]]]"#, None),
+        (r#"["path",[[1,0]]]"#, None),
+        (r#"["path",[[1,67108865,0]]]"#, None),
+        (r#"["path",[1,0,0]]"#, None),
+        (r#"["polygon",[]]"#, Some(("polygon", [0; 6], 0))),
+        (r#"["polygon",[0,0,5,5,0,5]]"#, Some(("polygon", [0; 6], 3))),
+        (r#"["polygon",[0,0,5]]"#, None),
+        (r#"["polygon",[0,-67108865]]"#, None),
+        (r#"["polyline",[0,0,5,5]]"#, Some(("polyline", [0; 6], 2))),
+        (r#"["polyline",[0]]"#, None),
+        (
+            r#"["line",-67108864,67108864,1,2]"#,
+            Some(("line", [-67108864, 67108864, 1, 2, 0, 0], 0)),
+        ),
+        (r#"["line",0,0,67108865,0]"#, None),
+        (r#"["line",0,0,0]"#, None),
+        (
+            r#"["rect",-67108864,67108864,0,67108864,1,2]"#,
+            Some(("rect", [-67108864, 67108864, 0, 67108864, 1, 2], 0)),
+        ),
+        (r#"["rect",0,0,-1,0,0,0]"#, None),
+        (r#"["rect",0,0,0,0,0,67108865]"#, None),
+        (r#"["rect",0,0,0,0]"#, None),
+        (
+            r#"["circle",1,2,67108864]"#,
+            Some(("circle", [1, 2, 67108864, 0, 0, 0], 0)),
+        ),
+        (r#"["circle",1,2,-1]"#, None),
+        (
+            r#"["ellipse",1,2,3,4]"#,
+            Some(("ellipse", [1, 2, 3, 4, 0, 0], 0)),
+        ),
+        (r#"["ellipse",1,2,3]"#, None),
+        (
+            r#"["boxes",[[0,0,1,1],[-67108864,0,67108864,0]]]"#,
+            Some(("boxes", [0; 6], 2)),
+        ),
+        (r#"["boxes",[[0,0,1]]]"#, None),
+        (r#"["rect",[1048576,-1048576]]"#, Some(("area", [0; 6], 0))),
+        (r#"["rect",[1048577]]"#, None),
+        (r#"["circle",[]]"#, Some(("area", [0; 6], 0))),
         (r#"["circle",[-1048577]]"#, None),
-        (r#"["circle",[1.0]]"#, None),
-        (r#"["poly",[0,0,20,0,0,20]]"#, Some((true, 0))),
-        (r#"["poly",[1,2,3]]"#, Some((false, 0))),
+        (r#"["poly",[1,2,3]]"#, Some(("area", [0; 6], 0))),
         (r#"["poly",1]"#, None),
-        (r#"["default"]"#, Some((true, 0))),
+        (r#"["default"]"#, Some(("area", [0; 6], 0))),
         (r#"["default",[]]"#, None),
-        (r#"["map",4294967295]"#, Some((false, 4294967295))),
-        (r#"["map",0]"#, Some((false, 0))),
+        (r#"["view"]"#, Some(("no view", [0; 6], 0))),
+        (
+            r#"["view",-67108864,1,0,67108864,"xMidYMax","slice"]"#,
+            Some(("view", [-67108864, 1, 0, 67108864, 0, 0], 0)),
+        ),
+        (r#"["view",0,0,1,1,"xmidymid","meet"]"#, None),
+        (r#"["view",0,0,1,1,"none","fill"]"#, None),
+        (r#"["view",0,0,-1,1,"none","meet"]"#, None),
+        (r#"["port",1,2,3,4]"#, Some(("port", [1, 2, 3, 4, 0, 0], 0))),
+        (
+            r#"["port",1,2,3,4,5,6,7,8,"none","meet"]"#,
+            Some(("port", [1, 2, 3, 4, 0, 0], 0)),
+        ),
+        (r#"["port",1,2,3,4,5,6,7,8,"none"]"#, None),
+        (
+            r#"["map",4294967295]"#,
+            Some(("map", [4294967295, 0, 0, 0, 0, 0], 0)),
+        ),
+        (r#"["map",0]"#, Some(("map", [0; 6], 0))),
         (r#"["map",4294967296]"#, None),
-        (r#"["map",-1]"#, None),
-        (r#"["map"]"#, None),
         (r#"["star",0]"#, None),
-        (r#"["view"]"#, None),
-        (r#"["polygon",[0,0,5,5,0,5]]"#, None),
         (r#"[]"#, None),
         (r#"{}"#, None),
     ] {
-        let found = formed(alloc, text)?.and_then(|form| told(&form));
-        assert_eq!(rt; found, expected, "{text}");
+        let form = formed(alloc, text)?;
+        assert_eq!(rt; form.map(|form| told(&form)), expected, "{text}");
+    }
+    Ok(())
+}
+
+#[test]
+fn each_align_has_its_name_with_either_fit(rt: HostRuntime) -> Result<(), Fail> {
+    let alloc = rt.alloc();
+    let keep = |x, y| Align::Keep { x, y };
+    for (name, align) in [
+        ("none", Align::Stretch),
+        ("xMinYMin", keep(Side::Min, Side::Min)),
+        ("xMidYMin", keep(Side::Mid, Side::Min)),
+        ("xMaxYMin", keep(Side::Max, Side::Min)),
+        ("xMinYMid", keep(Side::Min, Side::Mid)),
+        ("xMidYMid", keep(Side::Mid, Side::Mid)),
+        ("xMaxYMid", keep(Side::Max, Side::Mid)),
+        ("xMinYMax", keep(Side::Min, Side::Max)),
+        ("xMidYMax", keep(Side::Mid, Side::Max)),
+        ("xMaxYMax", keep(Side::Max, Side::Max)),
+    ] {
+        for (fit_name, fit) in [("meet", Fit::Meet), ("slice", Fit::Slice)] {
+            let text = format!(in alloc; "[\"port\",0,0,1,1,2,3,4,5,\"{name}\",\"{fit_name}\"]")?;
+            let Some(Form::Port(port)) = formed(alloc, &text)? else {
+                return Ok(assert!(rt; false));
+            };
+            let expected = ViewBox {
+                x: 2,
+                y: 3,
+                w: 4,
+                h: 5,
+                align,
+                fit,
+            };
+            assert_eq!(rt; port.view, Some(expected), "{name} {fit_name}");
+        }
     }
     Ok(())
 }

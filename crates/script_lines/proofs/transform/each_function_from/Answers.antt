@@ -1,4 +1,4 @@
-use Rattle.std.proofs.Common.{rules, arith, subst, sym, All, ◌++◌, ◌∷◌, []}
+use Rattle.std.proofs.Common.{arith, subst, sym, All, ◌++◌, ◌∷◌, []}
 use Rattle.std.proofs.lemmas.Grind.{common_steps}
 use Rattle.std.proofs.lemmas.List.Elements.{All-push}
 use Rattle.computed_style.specs.Ranges.{IsFunctionInRange}
