@@ -3,15 +3,16 @@ ghost use Rattle.std.specs.Prelude.{◌≡◌, ◌<◌};
 use super::*;
 use crate::within;
 use Function::{Matrix, Quarter, Scale, Translate};
-use Kind::{Block, Inline, Text};
+use Kind::{Area, Block, Group, Inline, Inner, Shape, Svg, Text};
 use Position::{Absolute, Fixed, Relative, Static};
 use affine::Parts;
-use box_tree::{Edit, Kind, Piece, PieceList};
+use box_tree::{Edit, Form, Kind, Piece, PieceList};
 use computed_style::{Function, Functions, Overflow, Position, Style};
 use fractions::{Blank, Brand, Spot};
 use std::alloc::Global;
 use std::process::Abort;
 use std::test::Fail;
+use view_boxes::{Align, Fit, Port, Side, ViewBox};
 
 // A node to be added as the first child of its parent.
 #[derive(Drop)]
@@ -208,10 +209,80 @@ fn turned(rt: &impl Abort, alloc: Global) -> Result<Page, Fail> {
     Ok(page)
 }
 
+fn view(w: i64, h: i64, align: Align, fit: Fit) -> ViewBox {
+    ViewBox {
+        x: 64,
+        y: -128,
+        w,
+        h,
+        align,
+        fit,
+    }
+}
+
+// A page of svgs. That of node 2 shows what is in it, and so does node 5 inside it; node 7 is given no viewport, node 9 has
+// no box, and the borders of node 11 leave nothing. The viewBox of node 15 is beyond the bound on maps, and nothing is in it.
+fn drawn(rt: &impl Abort, alloc: Global) -> Result<Page, Fail> {
+    let none = [0, 0, 0, 0];
+    let middle = Align::Keep {
+        x: Side::Mid,
+        y: Side::Mid,
+    };
+    let mut page = Page::new(alloc, 81_920, 46_080);
+    for (parent, kind, border, sides) in [
+        (0, Block, none, Some((0, 0, 1000, 1000))),
+        (1, Svg, [2, 0, 0, 3], Some((10, 20, 403, 202))),
+        (2, Group, none, None),
+        (3, Shape, none, None),
+        (2, Inner, none, None),
+        (5, Group, none, None),
+        (2, Inner, none, None),
+        (7, Shape, none, None),
+        (1, Svg, none, None),
+        (9, Group, none, None),
+        (1, Svg, [3, 3, 3, 3], Some((0, 0, 5, 5))),
+        (11, Group, none, None),
+        (1, Kind::Map, none, None),
+        (13, Area, none, None),
+        (1, Svg, none, Some((0, 0, 1, 1))),
+    ] {
+        let node = Added {
+            parent,
+            kind,
+            style: placed(alloc, Static, border),
+            sides,
+        };
+        add(rt, alloc, &mut page, node)?;
+    }
+    let twice = Scale { x: 2, y: 2, q: 1 };
+    let style = transformed(alloc, &[twice], Some((5, 6)))?;
+    apply(rt, &mut page, &Edit::Restyle { id: 4, style })?;
+    for (id, form) in [
+        (2, Form::View(Some(view(6400, 6400, middle, Fit::Meet)))),
+        (
+            5,
+            Form::Port(Port {
+                x: 640,
+                y: 1280,
+                w: 25600,
+                h: 12800,
+                view: Some(view(6400, 6400, middle, Fit::Slice)),
+            }),
+        ),
+        (
+            15,
+            Form::View(Some(view(4_194_305, 4_194_307, Align::Stretch, Fit::Meet))),
+        ),
+    ] {
+        apply(rt, &mut page, &Edit::Reshape { id, form })?;
+    }
+    Ok(page)
+}
+
 fn compare<L: Ledger>(
     rt: &impl Abort,
     page: &Page,
-    spaces: &[(u32, Parts, Option<FinePoint>)],
+    spaces: &[(u32, Option<Parts>, Option<FinePoint>)],
     blank: Blank,
 )
     requires name { blank.name ≡ L.name }
@@ -223,17 +294,17 @@ fn compare<L: Ledger>(
     for (id, parts, local) in spaces {
         assert!(rt; page.has(*id));
         let space = plain_space(page, *id, &mut steps);
-        assert_eq!(rt; space.map(|map| map.parts()), Some(*parts), "{id}");
+        assert_eq!(rt; space.map(|map| map.parts()), *parts, "{id}");
         assert_eq!(rt; local_point(page, *id, 20, 30, &mut steps), *local, "{id}");
     }
 }
 
-fn by(x: i128, y: i128) -> Parts {
+fn by(x: i128, y: i128) -> Option<Parts> {
     map([1, 0, 0, 1], x, y, 1)
 }
 
-fn map([a, b, c, d]: [i128; 4], e: i128, f: i128, q: i128) -> Parts {
-    Parts {
+fn map([a, b, c, d]: [i128; 4], e: i128, f: i128, q: i128) -> Option<Parts> {
+    Some(Parts {
         a,
         b,
         c,
@@ -241,7 +312,7 @@ fn map([a, b, c, d]: [i128; 4], e: i128, f: i128, q: i128) -> Parts {
         e,
         f,
         q,
-    }
+    })
 }
 
 fn at(x: i128, y: i128) -> Option<FinePoint> {
@@ -294,5 +365,36 @@ fn transforms_turn_around_their_origins(rt: HostRuntime) -> Result<(), Fail> {
         (6, map([0, 0, 0, 1], 7, 0, 1), None),
     ];
     compare::<Brand>(&rt, &page, &spaces, Blank::new(1));
+    Ok(())
+}
+
+#[test]
+fn what_is_in_an_svg_stands_in_its_view_box(rt: HostRuntime) -> Result<(), Fail> {
+    let mut page = drawn(&rt, rt.alloc())?;
+    let spaces = [
+        (2, by(0, 0), at(1280, 1920)),
+        (3, map([2, 0, 0, 2], 111, 26, 1), at(-2912, 128)),
+        (4, map([4, 0, 0, 4], 101, 14, 1), at(-1296, 256)),
+        (5, map([2, 0, 0, 2], 111, 26, 1), at(-2912, 128)),
+        (6, map([8, 0, 0, 8], 123, -118, 1), at(-824, 1184)),
+        (7, map([2, 0, 0, 2], 111, 26, 1), at(-2912, 128)),
+        (8, None, None),
+        (9, by(0, 0), at(1280, 1920)),
+        (10, None, None),
+        (11, by(0, 0), at(1280, 1920)),
+        (12, None, None),
+        (13, None, None),
+        (14, None, None),
+        (15, by(0, 0), at(1280, 1920)),
+    ];
+    compare::<Brand>(&rt, &page, &spaces, Blank::new(1));
+    let node = Added {
+        parent: 15,
+        kind: Group,
+        style: Style::new(rt.alloc()),
+        sides: None,
+    };
+    add(&rt, rt.alloc(), &mut page, node)?;
+    assert!(&rt; !within(&page));
     Ok(())
 }
