@@ -61,9 +61,9 @@ pub const AREAS_IN_BORDERS: &[u8] =
 {"op":"place","id":4,"anchor":[0,0],"boxes":[],"max":[0,0]}
 {"op":"style","id":4,"style":{}}
 {"op":"style","id":2,"style":{}}
-{"op":"add","parent":2,"at":2,"kind":"area","boxes":[],"style":{"opacity":1000}}
-{"op":"add","parent":2,"at":3,"kind":"area","boxes":[],"style":{"opacity":999}}
-{"op":"add","parent":2,"at":3,"kind":"block","boxes":[],"style":{}}
+{"op":"add","parent":2,"at":1,"kind":"area","boxes":[],"style":{"opacity":1000}}
+{"op":"add","parent":2,"at":2,"kind":"area","boxes":[],"style":{"opacity":999}}
+{"op":"add","parent":2,"at":2,"kind":"block","boxes":[],"style":{}}
 {"op":"add","parent":1,"at":2,"kind":"area","boxes":[],"style":{}}
 "#;
 
