@@ -9,8 +9,8 @@ use affine::Map;
 use box_tree::Page;
 use fractions::{Blank, Brand, Ledger, Steps};
 
-/// Whether no partial product of any node of the page passes the bound on maps: the product after each factor of its
-/// space. The steps are counted by a counter of its own.
+/// Whether no partial product of any node of the page passes the bound on maps: each factor of its space, and the product
+/// after it. The steps are counted by a counter of its own.
 pub fn within(page: &Page) -> bool
     ensures { result ≡ is_bounded page.now.contents }
 {

@@ -5,7 +5,7 @@
 //! space, rounded down, that `within` says whether no product on the way to any node passes the bound on maps, and that
 //! the values of a node are those of `specs/Values.antt`, inherited from the root on down. It stands on `affine` for maps,
 //! on `box_tree` for the page and its containing blocks, on `computed_style` for the functions of transforms and for a
-//! step of inheritance, and on `fractions` for the counter of steps.
+//! step of inheritance, on `view_boxes` for the maps of viewBoxes, and on `fractions` for the counter of steps.
 #![tactic(auto)]
 
 mod bound;

@@ -17,8 +17,8 @@ pub struct FinePoint {
 }
 
 /// The space of a node of a page whose partial products are within the bound: the map from its coordinates to those of
-/// the viewport, in units (CSS 2.2, 10.1; CSS Transforms 1, 3). None exactly where the node has no space: today each has
-/// one.
+/// the viewport, in units (CSS 2.2, 10.1; CSS Transforms 1, 3). None exactly where the node has no space: it is a map or an
+/// area, or in an svg whose rendering is disabled (SVG 2, "The 'viewBox' attribute").
 pub fn plain_space<L: Ledger>(page: &Page, id: u32, steps: &mut Steps<L>) -> Option<Map>
     requires there { IsTrue (has_id page.now.contents id) }
     requires bounded { IsTrue (is_bounded page.now.contents) }

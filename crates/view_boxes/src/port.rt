@@ -2,7 +2,8 @@ ghost use Rattle.std.specs.Prelude.{◌↔◌, ◌≤ℤ◌, IsTrue, IfSome};
 ghost use Rattle.computed_style.specs.Ranges.{IsWithin, AreWithin, IsSide};
 ghost use Rattle.view_boxes.specs.Ranges.{AreSides, IsBoxInRange, IsViewBoxInRange, IsPortInRange};
 
-/// Where along an axis a viewBox that doesn't fill its viewport stands. SVG 2, section 8.7.
+/// Where along an axis a viewBox that doesn't fill its viewport stands. SVG 2, "The
+/// 'preserveAspectRatio' attribute".
 #[derive(Clone, Copy, Debug, PartialEq, Eq, Hash)]
 pub enum Side {
     /// Least with least.
@@ -13,7 +14,8 @@ pub enum Side {
     Max,
 }
 
-/// Whether the ratio of a viewBox's sides is kept, and if so, where the viewBox stands. SVG 2, section 8.7.
+/// Whether the ratio of a viewBox's sides is kept, and if so, where the viewBox stands. SVG 2, "The
+/// 'preserveAspectRatio' attribute".
 #[derive(Clone, Copy, Debug, PartialEq, Eq, Hash)]
 pub enum Align {
     /// Each axis is scaled apart, so that the viewBox fills the viewport: `none`.
@@ -22,7 +24,8 @@ pub enum Align {
     Keep { x: Side, y: Side },
 }
 
-/// Which scale both axes have where they are scaled alike. SVG 2, section 8.7.
+/// Which scale both axes have where they are scaled alike. SVG 2, "The
+/// 'preserveAspectRatio' attribute".
 #[derive(Clone, Copy, Debug, PartialEq, Eq, Hash)]
 pub enum Fit {
     /// The greatest with which the whole viewBox is seen.
@@ -32,7 +35,7 @@ pub enum Fit {
 }
 
 /// The rectangle of user space that is to fill a viewport, in fine units of 1/4096 px: its place within 2^26, its sides
-/// from 0 to 2^26. SVG 2, section 8.6.
+/// from 0 to 2^26. SVG 2, "The 'viewBox' attribute".
 #[derive(Clone, Copy, Debug, PartialEq, Eq, Hash)]
 pub struct ViewBox {
     pub x: i64,
@@ -53,7 +56,7 @@ impl ViewBox {
 }
 
 /// A viewport in the user space around it, in fine units of 1/4096 px: its place within 2^26, its sides from 0 to 2^26.
-/// SVG 2, sections 8.2 and 8.6.
+/// SVG 2, "Establishing a new SVG viewport".
 #[derive(Clone, Copy, Debug, PartialEq, Eq, Hash)]
 pub struct Port {
     pub x: i64,
