@@ -158,7 +158,7 @@ fn cover_of<L: Ledger>(page: &Page, map: u32, x: i64, y: i64, blank: Blank) -> O
 }
 
 // A map 8 with four areas: 9 covers from 40 to 50, 13 nothing, 14 from 30 to 50, and 15, that has no form at first, then
-// everything. In fine units, 64 to a unit.
+// everything. The points are in fine units, 64 to a unit: 35, 45 and 55 units.
 #[test]
 fn the_first_area_that_covers_is_found(rt: HostRuntime) -> Result<(), Fail> {
     let alloc = rt.alloc();
@@ -186,15 +186,15 @@ fn the_first_area_that_covers_is_found(rt: HostRuntime) -> Result<(), Fail> {
         assert_eq!(rt; answer(&rt, &mut page, &edit), Ok(0));
     }
     for (map, x, y, found) in [
-        (8, 45, 45, Some(9)),
-        (8, 35, 35, Some(14)),
-        (8, 55, 55, None),
-        (2, 45, 45, None),
-        (9, 45, 45, None),
-        (0, 45, 45, None),
-        (99, 45, 45, None),
+        (8, 2_880, 2_880, Some(9)),
+        (8, 2_240, 2_240, Some(14)),
+        (8, 3_520, 3_520, None),
+        (2, 2_880, 2_880, None),
+        (9, 2_880, 2_880, None),
+        (0, 2_880, 2_880, None),
+        (99, 2_880, 2_880, None),
     ] {
-        let first = cover_of::<Brand>(&page, map, 64 * x, 64 * y, Blank::new(1));
+        let first = cover_of::<Brand>(&page, map, x, y, Blank::new(1));
         assert_eq!(rt; first, found, "{map} {x} {y}");
     }
     let form = form_of(alloc, 2)?;
@@ -202,7 +202,7 @@ fn the_first_area_that_covers_is_found(rt: HostRuntime) -> Result<(), Fail> {
         answer(&rt, &mut page, &Edit::Reshape { id: 15, form }),
         Ok(0)
     );
-    let first = cover_of::<Brand>(&page, 8, 64 * 55, 64 * 55, Blank::new(1));
+    let first = cover_of::<Brand>(&page, 8, 3_520, 3_520, Blank::new(1));
     assert_eq!(rt; first, Some(15));
     Ok(())
 }
