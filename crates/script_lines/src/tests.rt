@@ -323,7 +323,10 @@ fn an_overflow_has_its_values_and_radii_their_least_and_greatest(
         (r#"{"radii":[0,0,0,0,0,0,0]}"#, None),
         (r#"{"radii":[0,0,0,0,0,0,0,0,0]}"#, None),
     ] {
-        let set = added(alloc, r#""block""#, text)?.map(|node| (node.1.overflow, node.1.radii));
+        let set = added(alloc, r#""block""#, text)?.map(|node| {
+            let radii = node.1.radii;
+            (node.1.overflow, radii)
+        });
         assert_eq!(rt; set, expected, "{text}");
     }
     Ok(())
