@@ -9,6 +9,7 @@ ghost use Rattle.scroll_clip.specs.Curves.{border_curve, padding_curve, HasCurve
 ghost use Rattle.point_query.specs.Elements.{elements_of, part_admits};
 
 use crate::areas::element_of;
+use crate::outlines::outline_admits;
 use box_tree::{Item, Node, Page, Part};
 use computed_style::{Inherited, admits_box};
 use fractions::{Ledger, Steps};
@@ -63,7 +64,7 @@ fn part_admits(node: &Node, values: &Inherited, at: FinePoint, part: Part) -> bo
     match part {
         Part::Box { place } => { admits_box(values) && some_box_holds(node, place, at) }
         Part::Content => admits_box(values) && content_holds(node, at),
-        Part::Outline => false,
+        Part::Outline => outline_admits(node, values, at),
     }
 }
 
