@@ -1,5 +1,5 @@
 -- The outline of a shape as a target (SVG 2, "The 'pointer-events' property").
-use Rattle.std.specs.Prelude.{Option, None, Some, Bool, false, ◌^◌, ◌≤◌, unsigned_abs}
+use Rattle.std.specs.Prelude.{Option, None, Some, Bool, false, unsigned_abs}
 use Rattle.std.specs.Option.{option_map_or}
 use Rattle.poly_shapes.specs.declared.point.Cap.{Cap}
 use Rattle.poly_shapes.specs.declared.point.Cap.TheVariants as cap
@@ -17,11 +17,6 @@ use Rattle.box_tree.specs.declared.form.Form.{Form}
 use Rattle.box_tree.specs.declared.form.Form.TheVariants.{Outline, Cover, View, Port, MapName}
 use Rattle.box_tree.specs.Forest.{Label}
 use Rattle.spaces.specs.declared.space.FinePoint.{FinePoint}
-
--- a local point of the size for which shapes are tested
-pub record IsInReach (at : FinePoint) : Type 0 where
-  pub across : unsigned_abs at.x ≤ 2 ^ 122
-  pub down : unsigned_abs at.y ≤ 2 ^ 122
 
 -- 'fill-rule' as the rule by which a fill is tested
 abbrev pub fill_rule_of : Rule → FillRule

@@ -1,10 +1,11 @@
 // Whether the outline of a shape is admitted at a local point.
-ghost use Rattle.std.specs.Prelude.{◌≡◌, IfSome, unsigned_abs};
+ghost use Rattle.std.specs.Prelude.{◌≡◌, ◌^◌, IfSome};
+ghost use Rattle.affine.specs.Function.{AreWithin};
 ghost use Rattle.svg_shapes.specs.Shapes.{IsMeasured};
 ghost use Rattle.computed_style.specs.Ranges.{IsSide};
 ghost use Rattle.box_tree.specs.Forms.{IsFormInRange};
 ghost use Rattle.box_tree.specs.Kept.{label_of};
-ghost use Rattle.point_query.specs.Outlines.{fill_rule_of, cap_of, is_over_fill, is_over_stroke, shape_admits, outline_admits, IsInReach};
+ghost use Rattle.point_query.specs.Outlines.{fill_rule_of, cap_of, shape_admits, outline_admits};
 
 use box_tree::{Form, Node};
 use computed_style::{Ends, Inherited, Rule, admits_shape};
@@ -15,7 +16,7 @@ use svg_shapes::{Cap, FillRule, Shape};
 pub(crate) fn outline_admits(node: &Node, values: &Inherited, at: FinePoint) -> bool
     requires form { IfSome node.now.form IsFormInRange }
     requires width { IsSide 26 values.now.stroke_width }
-    requires at { IsInReach at }
+    requires at { AreWithin (2 ^ 122) at.x at.y }
     ensures { result ≡ outline_admits (label_of node.now) values.now at }
 {
     match &node.form {
@@ -29,7 +30,7 @@ pub(crate) fn outline_admits(node: &Node, values: &Inherited, at: FinePoint) -> 
 fn shape_admits(shape: &Shape, values: &Inherited, at: FinePoint) -> bool
     requires shape { IsMeasured shape.now }
     requires width { IsSide 26 values.now.stroke_width }
-    requires at { IsInReach at }
+    requires at { AreWithin (2 ^ 122) at.x at.y }
     ensures { result ≡ shape_admits shape.now values.now at }
 {
     let over_fill = shape.interior(fill_rule_of(values.rule), at.x, at.y);

@@ -8,3 +8,4 @@ pub mod WalkLemmas
 pub mod WidthLemmas
 pub mod ViewLemmas
 pub mod ShownLemmas
+pub mod SuitedLemmas
