@@ -167,6 +167,9 @@ times_64-fits n small = omega (arith, ints)
 pub times_64-read : (n : ℤ) → unsigned_abs n ≤ 2 ^ 116 → read (pos 64 *ℤ read n) ≡ pos 64 *ℤ n
 times_64-read n small = omega (arith, ints)
 
+pub times_64-size : (n : ℤ) → unsigned_abs n ≤ 2 ^ 116 → unsigned_abs (pos 64 *ℤ n) ≤ 2 ^ 122
+times_64-size n small = omega (arith, ints)
+
 -- what a call answers that was passed n and w, and answers the floor of 64 n / w
 pub floor-read :
     (n w r n' w' : ℤ) → FitsSigned w128 r → unsigned_abs n ≤ 2 ^ 120 → n ≡ n' → unsigned_abs w ≤ 2 ^ 120 → w ≡ w' →

@@ -1,9 +1,9 @@
--- The floor as a function, and that its two inequalities leave no other number.
-use Rattle.std.proofs.Common.{ℕ, zero, suc, ◌≡◌, ◌≢◌, ℤ, pos, negsuc, ◌+ℤ◌, ◌*ℤ◌, ◌<ℤ◌, neg_ℤ, arith, refl}
+-- The floor as a function, how large it is, and that its two inequalities leave no other number.
+use Rattle.std.proofs.Common.{ℕ, zero, suc, ◌≡◌, ◌≢◌, ◌≤◌, ℤ, pos, negsuc, ◌+ℤ◌, ◌*ℤ◌, ◌<ℤ◌, neg_ℤ, arith, refl, div-le_self}
 use borrow.Author.Differences.{le_out}
 use Rattle.std.proofs.Math.Nat.{mul-le-mul_right}
 use Rattle.std.proofs.Math.IntN.{*ℤ-negsuc}
-use Rattle.std.specs.Prelude.{Some}
+use Rattle.std.specs.Prelude.{Some, unsigned_abs}
 use Rattle.std.specs.Int.{int_div_euclid}
 use Rattle.std.proofs.lemmas.Int.{ints, by_lt_z}
 use Rattle.fractions.specs.Division.{IsFloor}
@@ -21,6 +21,17 @@ IsFloor-floor_of n (pos zero) h = absurd (h refl)
 IsFloor-floor_of n (pos (suc d)) h = floor_by_positive n (pos (suc d)) (omega (arith, ints))
 IsFloor-floor_of n (negsuc d) h =
     IsFloor-negated n (negsuc d) (floor_of n (negsuc d)) (floor_by_positive (neg_ℤ n) (pos (suc d)) (omega (arith, ints)))
+
+-- and it is no larger in size than what is divided
+div_euclid-size : (n : ℤ) (d : ℕ) → unsigned_abs (int_div_euclid n (pos d)) ≤ unsigned_abs n
+div_euclid-size (pos a) d = div-le_self a d
+div_euclid-size (negsuc a) d = omega (arith, div-le_self a d)
+
+pub floor_of-size : (n d : ℤ) → unsigned_abs (floor_of n d) ≤ unsigned_abs n
+floor_of-size n (pos d) = div_euclid-size n d
+floor_of-size n (negsuc d) =
+    let negated : unsigned_abs (neg_ℤ n) ≡ unsigned_abs n = omega (arith, ints) in
+    rw negated at (div_euclid-size (neg_ℤ n) (suc d))
 
 -- a positive factor may be left out of both sides of an order
 pub lt-cancel : (j l : ℤ) (b : ℕ) → (j *ℤ pos b) <ℤ (l *ℤ pos b) → j <ℤ l

@@ -1,8 +1,8 @@
 -- A row of the matrix is linear, so over a closed rectangle it lies between its least and its greatest value at the
 -- four corners. Each lemma here speaks of one coordinate.
-use Rattle.std.proofs.Common.{ℕ, zero, suc, ◌≡◌, ◌≢◌, ◌⊎◌, inl, inr, ℤ, pos, negsuc, ◌+ℤ◌, ◌*ℤ◌, ◌<ℤ◌, ◌≤ℤ◌, arith, ap, ◌∙◌, sym, refl}
+use Rattle.std.proofs.Common.{ℕ, suc, ◌≡◌, ◌≢◌, ◌⊎◌, inl, inr, ℤ, pos, negsuc, ◌+ℤ◌, ◌*ℤ◌, ◌<ℤ◌, ◌≤ℤ◌, arith, ap, ◌∙◌, sym, refl}
 use borrow.Author.Differences.{lt_out, le_out, true_is_lt}
-use Rattle.std.proofs.Math.Nat.{mul-le-mul_left, mul-le-mul_right}
+use Rattle.std.proofs.Math.Nat.{mul-le-mul_left}
 use Rattle.std.proofs.lemmas.Int.{ints, clamps}
 use Rattle.fractions.specs.declared.rect.Rect.{Rect}
 use Rattle.whole_numbers.proofs.Products.{mul_assoc, add-mul, le-mul, lt-mul}

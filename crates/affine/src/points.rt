@@ -1,5 +1,6 @@
 ghost use Rattle.std.specs.Prelude.{◌≡◌, ◌≢◌, ◌^◌, ◌≤◌, ◌↔◌, ℤ, pos, ◌+ℤ◌, ◌-ℤ◌, ◌*ℤ◌, unsigned_abs, IsTrue, IsNone, IfSome};
 ghost use Rattle.fractions.specs.Division.{IsFloor};
+ghost use Rattle.affine.specs.Function.{AreWithin};
 ghost use Rattle.affine.specs.Map.{IsWithinBound};
 ghost use Rattle.affine.specs.Point.{IsSamePoint, whole_point, image, determinant, preimage, floor_of, local_point};
 
@@ -14,7 +15,8 @@ pub fn is_singular(m: &Map) -> bool
 }
 
 /// Where the point (x, y) of whole units lies in the map's own space: 64 times its exact preimage, each coordinate
-/// rounded down, in fine units. None exactly where the map is singular. x and y are at most 2^20 in size.
+/// rounded down, in fine units. None exactly where the map is singular. x and y are at most 2^20 in size, and the
+/// coordinates answered at most 2^122.
 pub fn local(m: &Map, x: i64, y: i64) -> Option<(i128, i128)>
     requires x_size { unsigned_abs x ≤ 2 ^ 20 }
     requires y_size { unsigned_abs y ≤ 2 ^ 20 }
@@ -22,6 +24,7 @@ pub fn local(m: &Map, x: i64, y: i64) -> Option<(i128, i128)>
     ensures singular { IsNone result ↔ (determinant m.now ≡ pos 0) }
     ensures floor_x { IfSome result (λ at. IsFloor (pos 64 *ℤ (preimage m.now x y).x) (preimage m.now x y).w at.0) }
     ensures floor_y { IfSome result (λ at. IsFloor (pos 64 *ℤ (preimage m.now x y).y) (preimage m.now x y).w at.1) }
+    ensures size { IfSome result (λ at. AreWithin (2 ^ 122) at.0 at.1) }
 
     // What is rounded is the exact preimage: the map takes it to the point.
     ensures exact { IsSamePoint (image m.now (preimage m.now x y)) (whole_point x y) }
@@ -86,6 +89,7 @@ fn floor_in_fine_units(n: i128, d: i128) -> i128
     requires d_size { unsigned_abs d ≤ 2 ^ 116 }
     ensures floor { IsFloor (pos 64 *ℤ n) d result }
     ensures value { result ≡ floor_of (pos 64 *ℤ n) d }
+    ensures size { unsigned_abs result ≤ 2 ^ 122 }
 {
     floor_div(64 * n, d)
 }

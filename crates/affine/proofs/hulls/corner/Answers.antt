@@ -1,4 +1,4 @@
-use Rattle.std.proofs.Common.{refl, ◌∙◌, ◌^◌, lit≤, sym}
+use Rattle.std.proofs.Common.{refl, ◌∙◌, ◌^◌, lit≤}
 use Rattle.std.proofs.Math.Nat.{le_trans}
 use Rattle.std.specs.Int.{w128}
 use Rattle.std.proofs.lemmas.Int.{to_z-of_z}

@@ -1,8 +1,9 @@
 use Rattle.std.proofs.Common.{rules, FitsSigned, ◌*ℤ◌, pos}
+use Rattle.std.proofs.Math.Nat.{le_trans}
 use Rattle.std.specs.Int.{w128}
 use Rattle.std.proofs.lemmas.Int.{to_z-of_z}
-use Rattle.affine.proofs.Bits.{times_64-fits, times_64-read}
-use Rattle.affine.proofs.FloorLemmas.{IsFloor-floor_of, IsFloor-unique}
+use Rattle.affine.proofs.Bits.{times_64-fits, times_64-read, times_64-size}
+use Rattle.affine.proofs.FloorLemmas.{IsFloor-floor_of, IsFloor-unique, floor_of-size}
 use Rattle.affine.specs.Point.{floor_of}
 use Rattle.affine.proofs.points.floor_in_fine_units.Goals as goal
 
@@ -19,3 +20,8 @@ pub returns-clause-value : goal.returns-clause-value
 returns-clause-value c =
     let n = pos 64 *ℤ c.args.n in
     IsFloor-unique n c.args.d _ (floor_of n c.args.d) c.requires.divisor (returns-clause-floor c) (IsFloor-floor_of n c.args.d c.requires.divisor)
+
+pub returns-clause-size : goal.returns-clause-size
+returns-clause-size c =
+    rw (returns-clause-value c)
+    (le_trans (floor_of-size (pos 64 *ℤ c.args.n) c.args.d) (times_64-size c.args.n c.requires.n_size))

@@ -92,3 +92,12 @@ returns-clause-floor_y c =
 
 pub returns-clause-exact : goal.returns-clause-exact
 returns-clause-exact c = IsSamePoint-preimage c.args.m.now c.args.x c.args.y
+
+pub returns-clause-size : goal.returns-clause-size
+returns-clause-size c =
+    let fits_left : FitsSigned w128 c.floor_in_fine_units.result = search rules in
+    let fits_top : FitsSigned w128 c.floor_in_fine_units-2.result = search rules in
+    record {
+      first = rw (to_z-of_z w128 c.floor_in_fine_units.result fits_left) c.floor_in_fine_units.ensures.size;
+      second = rw (to_z-of_z w128 c.floor_in_fine_units-2.result fits_top) c.floor_in_fine_units-2.ensures.size;
+    }
