@@ -6,3 +6,4 @@ pub mod ExtentLemmas
 pub mod ReachLemmas
 pub mod DiscLemmas
 pub mod PlainRects
+pub mod HeldLemmas

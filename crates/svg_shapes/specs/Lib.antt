@@ -3,3 +3,4 @@ pub mod Rects
 pub mod Ellipses
 pub mod Boxes
 pub mod Shapes
+pub mod Held

@@ -4,6 +4,7 @@ ghost use Rattle.poly_shapes.specs.declared.point.FillRule.{FillRule};
 ghost use Rattle.poly_shapes.specs.Extent.{Holds, bounds_of, AreSidesWithin};
 ghost use Rattle.svg_shapes.specs.Measures.{IsLength};
 ghost use Rattle.svg_shapes.specs.Shapes.{IsMeasured, Interior, Perimeter, base_points, shape_bounds, IsDisabled, vertices};
+ghost use Rattle.svg_shapes.specs.Held.{is_in_interior, is_on_perimeter};
 
 use crate::boxes::{FineBox, FineBoxes};
 use crate::ellipse::Ellipse;
@@ -112,6 +113,17 @@ impl Shape {
         requires shape { IsMeasured self.now }
         requires x { unsigned_abs x < 2 ^ 123 }
         requires y { unsigned_abs y < 2 ^ 123 }
+        ensures held { IsTrue result ↔ Interior self.now rule x y }
+        ensures test { result ≡ is_in_interior self.now rule x y }
+    {
+        self.has_in_interior(rule, x, y)
+    }
+
+    /// Whether the interior holds a point, by the kind of shape.
+    fn has_in_interior(&self, rule: FillRule, x: i128, y: i128) -> bool
+        requires shape { IsMeasured self.now }
+        requires x { unsigned_abs x < 2 ^ 123 }
+        requires y { unsigned_abs y < 2 ^ 123 }
         ensures { IsTrue result ↔ Interior self.now rule x y }
     {
         match self {
@@ -138,6 +150,18 @@ impl Shape {
     /// shape that a side or a radius of 0 disables, nor a width of 0. SVG 2, "Painting: Filling, Stroking and Marker
     /// Symbols".
     pub fn perimeter(&self, width: i64, cap: Cap, x: i128, y: i128) -> bool
+        requires shape { IsMeasured self.now }
+        requires width { IsLength width }
+        requires x { unsigned_abs x < 2 ^ 123 }
+        requires y { unsigned_abs y < 2 ^ 123 }
+        ensures held { IsTrue result ↔ Perimeter self.now (unsigned_abs width) cap x y }
+        ensures test { result ≡ is_on_perimeter self.now (unsigned_abs width) cap x y }
+    {
+        self.has_on_perimeter(width, cap, x, y)
+    }
+
+    /// Whether a stroke holds a point, by the kind of shape.
+    fn has_on_perimeter(&self, width: i64, cap: Cap, x: i128, y: i128) -> bool
         requires shape { IsMeasured self.now }
         requires width { IsLength width }
         requires x { unsigned_abs x < 2 ^ 123 }

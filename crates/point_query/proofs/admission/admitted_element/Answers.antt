@@ -23,7 +23,7 @@ returns-then-not-admits_at g c =
     let node = c.node-node.result.now in
     let x_is : to_z w64 (of_z w64 c.args.x) ≡ c.args.x = omega (arith, ints) in
     let y_is : to_z w64 (of_z w64 c.args.y) ≡ c.args.y = omega (arith, ints) in
-    let at_is = rw (x_is, y_is) at c.local_point-at.ensures in
+    let at_is = rw (x_is, y_is) at c.local_point-at.ensures.value in
     sym (elements_of-seen c.args.page.now.contents c.args.x c.args.y c.args.item node c.local_point-at.result c.plain_values-values.result c.node-node.ensures.node (sym at_is) c.plain_values-values.ensures
     ∙ ap (λ (held : Bool). if held && inside_clips c.args.page.now.contents c.args.item.node c.args.x c.args.y then element_as node.kind node.parent node.id (area_under c.args.page.now.contents (label_of node) c.local_point-at.result) ∷ [] else []) (sym c.admits_at.ensures ∙ c.if-not-admits_at.true))
 
@@ -32,7 +32,7 @@ returns-then-not-inside_clips g c =
     let node = c.node-node.result.now in
     let x_is : to_z w64 (of_z w64 c.args.x) ≡ c.args.x = omega (arith, ints) in
     let y_is : to_z w64 (of_z w64 c.args.y) ≡ c.args.y = omega (arith, ints) in
-    let at_is = rw (x_is, y_is) at c.local_point-at.ensures in
+    let at_is = rw (x_is, y_is) at c.local_point-at.ensures.value in
     let inside = rw (x_is, y_is) at c.inside_clips.ensures in
     sym (elements_of-seen c.args.page.now.contents c.args.x c.args.y c.args.item node c.local_point-at.result c.plain_values-values.result c.node-node.ensures.node (sym at_is) c.plain_values-values.ensures
     ∙ ap (λ (held : Bool). if held && inside_clips c.args.page.now.contents c.args.item.node c.args.x c.args.y then element_as node.kind node.parent node.id (area_under c.args.page.now.contents (label_of node) c.local_point-at.result) ∷ [] else []) (sym c.admits_at.ensures ∙ c.if-not-admits_at.false)
@@ -43,7 +43,7 @@ returns g c =
     let node = c.node-node.result.now in
     let x_is : to_z w64 (of_z w64 c.args.x) ≡ c.args.x = omega (arith, ints) in
     let y_is : to_z w64 (of_z w64 c.args.y) ≡ c.args.y = omega (arith, ints) in
-    let at_is = rw (x_is, y_is) at c.local_point-at.ensures in
+    let at_is = rw (x_is, y_is) at c.local_point-at.ensures.value in
     let inside = rw (x_is, y_is) at c.inside_clips.ensures in
     sym (elements_of-seen c.args.page.now.contents c.args.x c.args.y c.args.item node c.local_point-at.result c.plain_values-values.result c.node-node.ensures.node (sym at_is) c.plain_values-values.ensures
     ∙ ap (λ (held : Bool). if held && inside_clips c.args.page.now.contents c.args.item.node c.args.x c.args.y then element_as node.kind node.parent node.id (area_under c.args.page.now.contents (label_of node) c.local_point-at.result) ∷ [] else []) (sym c.admits_at.ensures ∙ c.if-not-admits_at.false)
