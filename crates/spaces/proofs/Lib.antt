@@ -9,3 +9,4 @@ pub mod WidthLemmas
 pub mod ViewLemmas
 pub mod ShownLemmas
 pub mod SuitedLemmas
+pub mod FrameLemmas
