@@ -5,7 +5,6 @@ use Rattle.std.specs.List.{AllByRecursion, list_all}
 use Rattle.std.specs.Option.{option_map, option_map_or, option_and_then}
 use Rattle.affine.specs.declared.map.Parts.{Parts}
 use Rattle.affine.specs.Point.{local_point as point_in}
-use Rattle.box_tree.specs.declared.containing.Wanted.{Wanted}
 use Rattle.box_tree.specs.declared.edit.Edit.{Edit}
 use Rattle.box_tree.specs.Forest.{Label, Placed}
 use Rattle.box_tree.specs.Contents.{Contents, placed_of}
@@ -26,19 +25,19 @@ module _ (page after : Contents) (x y : ℤ) where
   lets_in-same n same = ap (λ (s : Option Parts). clip_holds (clip_set_by n) (option_map fine_point (option_and_then (λ m. point_in m x y) s))) same
 
   -- and so do all that hold a node below ancestors that keep their spaces
-  all_let_in-same : (wanted : Wanted) (above : List Label) → AllByRecursion (λ (n : Label). space after n.id ≡ space page n.id) above →
-      list_all (lets_in after x y) (holders_among wanted above) ≡ list_all (lets_in page x y) (holders_among wanted above)
-  all_let_in-same wanted [] same = refl
-  all_let_in-same wanted (n ∷ above) same =
-      by_test (may_hold wanted (parent_of above) n) (all_let_in-same (sought n) above same.1) (all_let_in-same wanted above same.1)
+  all_let_in-same : (held : Label) (above : List Label) → AllByRecursion (λ (n : Label). space after n.id ≡ space page n.id) above →
+      list_all (lets_in after x y) (holders_among (sought held) above) ≡ list_all (lets_in page x y) (holders_among (sought held) above)
+  all_let_in-same held [] same = refl
+  all_let_in-same held (n ∷ above) same =
+      by_test (may_hold (sought held) (parent_of above) n) (all_let_in-same n above same.1) (all_let_in-same held above same.1)
     where
       holder : Standing
       holder = record { label = n; above = above }
 
       by_test : (holds : Bool) → list_all (lets_in after x y) (holders_among (sought n) above) ≡ list_all (lets_in page x y) (holders_among (sought n) above) →
-          list_all (lets_in after x y) (holders_among wanted above) ≡ list_all (lets_in page x y) (holders_among wanted above) →
-          list_all (lets_in after x y) (if holds then holder ∷ holders_among (sought n) above else holders_among wanted above)
-          ≡ list_all (lets_in page x y) (if holds then holder ∷ holders_among (sought n) above else holders_among wanted above)
+          list_all (lets_in after x y) (holders_among (sought held) above) ≡ list_all (lets_in page x y) (holders_among (sought held) above) →
+          list_all (lets_in after x y) (if holds then holder ∷ holders_among (sought n) above else holders_among (sought held) above)
+          ≡ list_all (lets_in page x y) (if holds then holder ∷ holders_among (sought n) above else holders_among (sought held) above)
       by_test true further skipped = same_both _ _ _ _ (lets_in-same holder same.0) further
       by_test false further skipped = skipped
 
@@ -54,7 +53,7 @@ module _ (page after : Contents) (x y : ℤ) where
     where
       by_place : (o : Option Placed) → placed_of page id ≡ o → inside-by after (option_map standing_at o) ≡ inside-by page (option_map standing_at o)
       by_place None found = refl
-      by_place (Some p) found = all_let_in-same (sought p.label) p.above (same p found)
+      by_place (Some p) found = all_let_in-same p.label p.above (same p found)
 
 -- the frame law on clips
 pub inside_clips-outside : (page : Contents) (edit : Edit) (id : ℕ) (x y : ℤ) → IsFaultless page edit → IsOutside page edit id → inside_clips (edited page edit) id x y ≡ inside_clips page id x y

@@ -3,4 +3,4 @@ use Rattle.scroll_clip.proofs.FrameLemmas.{inside_clips-outside}
 use Rattle.scroll_clip.proofs.laws.frame_clips.Goals as goal
 
 pub returns : goal.returns
-returns c = inside_clips-outside
+returns c = record { clips = inside_clips-outside }
