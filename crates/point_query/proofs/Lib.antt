@@ -3,4 +3,3 @@ pub mod RootLemmas
 pub mod OnceLemmas
 pub mod AdmissionLemmas
 pub mod InsideLemmas
-pub mod OutlineLemmas

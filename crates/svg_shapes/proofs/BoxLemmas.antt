@@ -1,12 +1,10 @@
 -- Boxes as a loop takes them: their corners, and which of them holds a point.
-use Rattle.std.proofs.Common.{◌≡◌, ℕ, zero, suc, ◌+◌, ◌<◌, ◌⊎◌, inl, inr, ℤ, List, [], ◌∷◌, length, drop, get_or, fold, ◌^◌, arith, subst}
+use Rattle.std.proofs.Common.{ℕ, zero, suc, ◌<◌, ℤ, List, [], ◌∷◌, get_or, ◌^◌, arith}
 use Rattle.std.specs.List.{All, flat_map}
 use Rattle.std.proofs.lemmas.Int.{ints}
 use Rattle.std.proofs.lemmas.List.Elements.{All-append}
-use Rattle.std.proofs.lemmas.List.{at_drop_more}
-use Rattle.poly_shapes.specs.declared.point.Bounds.{Bounds}
 use Rattle.poly_shapes.specs.declared.point.Point.{Point}
-use Rattle.poly_shapes.specs.Extent.{widened, IsPointWithin}
+use Rattle.poly_shapes.specs.Extent.{IsPointWithin}
 use Rattle.svg_shapes.specs.declared.boxes.FineBox.{FineBox}
 use Rattle.svg_shapes.specs.Measures.{IsBoxMeasured}
 use Rattle.svg_shapes.specs.Boxes.{InBox}

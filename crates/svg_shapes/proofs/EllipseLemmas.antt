@@ -1,5 +1,5 @@
 -- What an ellipse holds, by what was measured, and how far it reaches.
-use Rattle.std.proofs.Common.{◌≡◌, ℕ, suc, ◌+◌, ◌*◌, ◌<◌, ◌≤◌, ℤ, pos, ◌<ℤ◌, Bool, true, false, refl, arith, subst, sym, IsTrue, ◌↔◌, unsigned_abs}
+use Rattle.std.proofs.Common.{◌≡◌, ℕ, suc, ◌*◌, ◌<◌, ◌≤◌, ℤ, pos, ◌<ℤ◌, Bool, true, false, refl, arith, subst, sym, IsTrue, ◌↔◌, unsigned_abs}
 use Rattle.std.specs.Prelude.{not}
 use Rattle.std.proofs.Math.Nat.{mul-le-mul}
 use Rattle.whole_numbers.proofs.Squares.{square-above}

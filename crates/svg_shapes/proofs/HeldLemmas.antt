@@ -1,14 +1,12 @@
 -- The tests of what a shape holds are true exactly where the shape holds the point: each of their parts decides a part.
-use Rattle.std.proofs.Common.{◌≡◌, ◌≢◌, ℕ, ◌%◌, ◌<◌, ℤ, pos, ◌+ℤ◌, ◌≤ℤ◌, ◌<ℤ◌, Bool, false, Decides, IsTrue, ◌↔◌, List, arith}
+use Rattle.std.proofs.Common.{◌≡◌, ℕ, ◌%◌, ◌<◌, ℤ, pos, ◌+ℤ◌, ◌≤ℤ◌, ◌<ℤ◌, Bool, false, Decides, IsTrue, ◌↔◌, List, arith}
 use Rattle.std.specs.Prelude.{not, ◌&&◌, nat_lt, int_le, int_lt}
-use Rattle.std.specs.List.{Any}
 use Rattle.std.specs.Ordering.{int_eq}
 use Rattle.std.proofs.lemmas.Int.{ints}
 use Rattle.std.proofs.lemmas.Bool.{false≢true, leb-true, le-leb}
 use Rattle.std.proofs.lemmas.Bool.Decides.{Decides-and, Decides-not, Decides-ltb, Decides-eqb, Decides-int_eq, same_from_decides}
 use Rattle.std.proofs.lemmas.List.Folds.{Any-from_list_any, list_any-from_Any}
 use Rattle.corner_shapes.specs.Held.{ellipse_holds}
-use Rattle.corner_shapes.specs.Curve.{EllipseHolds}
 use Rattle.corner_shapes.proofs.HeldLemmas.{in_rounded-decides}
 use Rattle.poly_shapes.specs.declared.segment.Segment.{Segment}
 use Rattle.poly_shapes.specs.declared.point.FillRule.{FillRule}
