@@ -2,7 +2,6 @@
 use Rattle.std.proofs.Common.{◌≡◌, ◌≢◌, ◌⊎◌, ℕ, ◌+◌, ◌<◌, ◌≤◌, ◌==◌, List, [], ◌∷◌, length, Option, Some, None, is_some, true, false, Bool, if◌then◌else◌, not, refl, sym, ap, ◌∙◌, subst, inl, inr, arith}
 use Rattle.std.specs.Prelude.{◌&&◌, ◌||◌}
 use Rattle.std.specs.Option.{option_or, option_map, option_map_or, option_to_list}
-use Rattle.std.specs.List.{insert}
 use Rattle.std.proofs.lemmas.Bool.{cases_lt, cases_eq}
 use Rattle.std.proofs.lemmas.Bool.Decides.{nat_tests}
 use Rattle.computed_style.specs.declared.style.Style.{Style}
@@ -17,12 +16,12 @@ use Rattle.box_tree.specs.Suits.{has_no_parent, kind_suits, box_count_suits, sty
 use Rattle.box_tree.specs.Forms.{form_vertices}
 use Rattle.box_tree.specs.Totals.{box_count}
 use Rattle.box_tree.specs.Edited.{IsAddInRange, first_of, faults_of, first_fault, put_below, ancestors_below, child_count}
-use Rattle.box_tree.specs.Kept.{with_children, IsKept}
+use Rattle.box_tree.specs.Kept.{IsKept}
 use Rattle.box_tree.specs.Nodes.{changed_at}
-use Rattle.box_tree.specs.Planned.{children_with}
+use Rattle.box_tree.specs.Planned.{with_child_at}
 use Rattle.box_tree.proofs.ForestLemmas.{single, node_in, with_child, placed_in-absent, roots-put_below, occurrences-put_below, node_count-put_below, node_in-put_below, node_in-absent, or-none}
 use Rattle.box_tree.proofs.KeptPages.{unscrolled}
-use Rattle.box_tree.proofs.KeptLemmas.{changed-none, child_more}
+use Rattle.box_tree.proofs.KeptLemmas.{changed-none, child_put}
 use Rattle.box_tree.proofs.PlacedLemmas.{id-node_of}
 use Rattle.box_tree.proofs.TotalLemmas.{total-put_below}
 use Rattle.box_tree.proofs.PutLemmas.{given-absent, each-put_below, each-map, height-put_below}
@@ -162,9 +161,9 @@ module _ (page : Contents) (valid : IsValid page) (parent at : ℕ) (kind : Kind
   node_in-new : (above : List Label) (id : ℕ) → node_in above (single label End) id ≡ (if page.next == id then Some (node_at (record { label = label; above = above; below = End })) else None)
   node_in-new above id = grind (arith, nat_tests)
 
-  -- nodes that are looked up as those of the page, with the new one, whose parent has these children
-  module _ (look new : ℕ → Option Node) (siblings : List ℕ) (looked_up : (k : ℕ) → look k ≡ node_of page k) (siblings_are : siblings ≡ children_with page parent at)
-      (known : (k : ℕ) → new k ≡ (if page.next == k then Some added_node else changed_at parent (with_children siblings) k (look k))) where
+  -- nodes that are looked up as those of the page, with the new one, which is a child of its parent
+  module _ (look new : ℕ → Option Node) (looked_up : (k : ℕ) → look k ≡ node_of page k)
+      (known : (k : ℕ) → new k ≡ (if page.next == k then Some added_node else changed_at parent (with_child_at at page.next) k (look k))) where
     -- the new one was not there
     pub new_unseen : look page.next ≡ None
     new_unseen = looked_up page.next ∙ node_in-absent page.tree [] page.next new_absent
@@ -174,8 +173,8 @@ module _ (page : Contents) (valid : IsValid page) (parent at : ℕ) (kind : Kind
     kept-root none_named = record {
       valid = valid-root none_named;
       looked_up = λ id.
-          known id ∙ ap (λ o. if page.next == id then Some added_node else changed_at parent (with_children siblings) id o) (looked_up id ∙ node_in-absent page.tree [] id (nothing page.tree id (may.root none_named)))
-          ∙ ap (λ o. if page.next == id then Some added_node else o) (changed-none parent (with_children siblings) id)
+          known id ∙ ap (λ o. if page.next == id then Some added_node else changed_at parent (with_child_at at page.next) id o) (looked_up id ∙ node_in-absent page.tree [] id (nothing page.tree id (may.root none_named)))
+          ∙ ap (λ o. if page.next == id then Some added_node else o) (changed-none parent (with_child_at at page.next) id)
           ∙ ap (λ above. if page.next == id then Some (node_at (record { label = label; above = above; below = End })) else None) (ap (ancestors_below page) none_named ∙ ancestors_below-none page valid)
           ∙ sym (node_in-new [] id);
       root = refl;
@@ -190,14 +189,14 @@ module _ (page : Contents) (valid : IsValid page) (parent at : ℕ) (kind : Kind
     kept-below there first root = record {
       valid = valid-below there;
       looked_up = λ id.
-          known id ∙ ap (λ o. if page.next == id then Some added_node else changed_at parent (with_children siblings) id o) (looked_up id)
+          known id ∙ ap (λ o. if page.next == id then Some added_node else changed_at parent (with_child_at at page.next) id o) (looked_up id)
           ∙ in_form id
           ∙ ap (option_or (option_map (with_child parent at page.next) (node_of page id))) (sym (node_in-new (ancestors_below page parent) id))
           ∙ sym (node_in-put_below page.tree [] parent at label End id (once_there page parent valid there) may.place (grind (arith, nat_tests, new_absent, valid.distinct id)));
       root = root ∙ sym (roots-put_below page.tree parent at label End);
     }
       where
-        in_form : (id : ℕ) → (if page.next == id then Some added_node else changed_at parent (with_children siblings) id (node_of page id)) ≡ option_or (option_map (with_child parent at page.next) (node_of page id)) (if page.next == id then Some added_node else None)
+        in_form : (id : ℕ) → (if page.next == id then Some added_node else changed_at parent (with_child_at at page.next) id (node_of page id)) ≡ option_or (option_map (with_child parent at page.next) (node_of page id)) (if page.next == id then Some added_node else None)
         in_form id = elim (cases_eq page.next id) [
           | inl here ↦
               let is : (page.next == id) ≡ true = grind (arith, nat_tests) in
@@ -206,5 +205,5 @@ module _ (page : Contents) (valid : IsValid page) (parent at : ℕ) (kind : Kind
           | inr other ↦
               let is : (page.next == id) ≡ false = grind (arith, nat_tests) in
               rw (is, or-none (option_map (with_child parent at page.next) (node_of page id)))
-              (child_more parent at page.next siblings id (node_of page id) (λ n seen. id-node_of page id n seen) (λ here. siblings_are ∙ ap (λ k. option_map_or (λ (n : Node). insert n.children at page.next) (node_of page k) []) here))
+              (child_put parent at page.next id (node_of page id) (λ n seen. id-node_of page id n seen))
         ]

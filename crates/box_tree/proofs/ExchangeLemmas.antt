@@ -14,7 +14,7 @@ use Rattle.box_tree.specs.Change.{changed}
 use Rattle.box_tree.specs.Kept.{node_with, with_children, with_label}
 use Rattle.box_tree.specs.Nodes.{NodesState, HasSameRoom, changed_at, ChangesAt}
 use Rattle.box_tree.specs.Planned.{is_among, times_in, relocated, relocated_at, MayRelocate, MayRelocateAll}
-use Rattle.box_tree.specs.Taken.{ids_of, AreFrom, CanBePut}
+use Rattle.box_tree.specs.Taken.{ids_of, AreFrom, CanBePut, CanTakeAdded}
 use Rattle.box_tree.proofs.CountLemmas.{among-times, times_in-append, length-ids_of}
 use Rattle.box_tree.proofs.KeptLemmas.{node_with-push, changed-none, changed-here, changed-other, relocated-among, relocated-apart}
 
@@ -23,6 +23,18 @@ pub absent_at : (taken look : ℕ → Option Node) (id id' : ℕ) → ((k : ℕ)
 absent_at taken look id id' takes same =
     let here : (id == id') ≡ true = grind (arith, nat_tests) in
     takes id' ∙ ap (λ (b : Bool). if b then None else look id') here
+
+-- the parent of a node that came has a child at its place once the node is taken
+pub child_within : (taken look : ℕ → Option Node) (id parent place : ℕ) → CanTakeAdded id parent place look → ((k : ℕ) → taken k ≡ (if id == k then None else look k)) → (n : Node) → taken parent ≡ Some n → place < length n.children
+child_within taken look id parent place can takes n found = elim (cases_eq id parent) [
+  | inl here ↦ absurd (none_some (sym (absent_at taken look id parent takes (sym here)) ∙ found))
+  | inr other ↦
+      let is : (id == parent) ≡ false = grind (arith, nat_tests) in
+      can.within other n (sym (takes parent ∙ ap (λ (b : Bool). if b then None else look parent) is) ∙ found)
+]
+  where
+    none_some : None ≡ Some n → ⊥
+    none_some is' = cc
 
 -- a node that is taken, changed and put back is changed
 pub changed_by : (old taken new : NodesState) (id : ℕ) (node node' : Node) (change : Node → Node) → Some node ≡ node_with old.nodes id →

@@ -1,7 +1,8 @@
 -- Looking an id up in nodes: what an exchange does to it, and how it goes back.
-use Rattle.std.proofs.Common.{◌≡◌, ◌≢◌, ℕ, ◌==◌, List, [], ◌∷◌, ◌++◌, Option, Some, None, is_some, Bool, true, false, if◌then◌else◌, refl, sym, ap, ◌∙◌, inl, inr, arith}
+use Rattle.std.proofs.Common.{◌≡◌, ◌≢◌, ℕ, zero, suc, ◌<◌, ◌≤◌, ◌==◌, List, [], ◌∷◌, ◌++◌, length, Option, Some, None, is_some, Bool, true, false, if◌then◌else◌, refl, sym, ap, ◌∙◌, inl, inr, arith}
 use Rattle.std.specs.Option.{option_or, option_map, option_map_or}
-use Rattle.std.specs.List.{insert}
+use Rattle.std.specs.List.{insert, remove}
+use Rattle.std.proofs.lemmas.List.Edits.{length-insert}
 use Rattle.std.proofs.lemmas.Bool.{cases_eq}
 use Rattle.std.proofs.lemmas.Bool.Decides.{nat_tests}
 use Rattle.box_tree.specs.declared.node.Node.{Node}
@@ -11,8 +12,8 @@ use Rattle.box_tree.specs.declared.plan.Relocation.{Relocation}
 use Rattle.box_tree.specs.Change.{changed, given_up}
 use Rattle.box_tree.specs.Kept.{node_with, label_of, with_children, with_label}
 use Rattle.box_tree.specs.Nodes.{changed_at}
-use Rattle.box_tree.specs.Planned.{is_among, relocated, relocated_at}
-use Rattle.box_tree.specs.Taken.{ids_of, AreFrom}
+use Rattle.box_tree.specs.Planned.{with_child_at, is_among, relocated, relocated_at}
+use Rattle.box_tree.specs.Taken.{without_child_at, ids_of, AreFrom}
 use Rattle.box_tree.proofs.ForestLemmas.{with_child}
 
 -- looking an id up where a node follows
@@ -66,6 +67,24 @@ changed-back id change back look goes k = elim (cases_eq id k) [
     by_look None is here = refl
     by_look (Some n) is here = ap Some (goes n (ap look here ∙ is))
 
+-- an id that is put at a place and taken out there
+remove-insert : (ids : List ℕ) (place id : ℕ) → place ≤ length ids → remove (insert ids place id) place ≡ ids
+remove-insert [] zero id within = refl
+remove-insert [] (suc place) id within = absurd (omega arith)
+remove-insert (first ∷ ids) zero id within = refl
+remove-insert (first ∷ ids) (suc place) id within = ap (λ rest. first ∷ rest) (remove-insert ids place id (omega (arith, within)))
+
+-- a child goes back from its place
+pub child-back : (place child : ℕ) (n : Node) → place ≤ length n.children → without_child_at place (with_child_at place child n) ≡ n
+child-back place child n within = rw (remove-insert n.children place child within) refl
+
+-- a node with one child more has a child at its place
+pub child_at : (place child : ℕ) (o : Option Node) (n : Node) → place ≤ option_map_or (λ (m : Node). length m.children) o place → option_map (with_child_at place child) o ≡ Some n → place < length n.children
+child_at place child None n within is = absurd cc
+child_at place child (Some m) n within is =
+    let n_is : with_child_at place child m ≡ n = cc in
+    omega (arith, within, length-insert m.children place child within, ap (λ (x : Node). length x.children) n_is)
+
 -- and so do children, by those that were there
 pub children-back : (parent : ℕ) (children had : List ℕ) (look : ℕ → Option Node) → had ≡ option_map_or (λ (n : Node). n.children) (look parent) children → (k : ℕ) → changed_at parent (with_children had) k (changed_at parent (with_children children) k (look k)) ≡ look k
 children-back parent children had look had_is k = changed-back parent (with_children children) (with_children had) look (λ n is. goes n (had_is ∙ ap (λ o. option_map_or (λ (m : Node). m.children) o children) is)) k
@@ -95,6 +114,11 @@ child_more parent at child children k (Some n) id_is children_are = elim (cases_
       let apart : n.id ≢ parent = (λ same. other (sym same ∙ id_is n refl)) in
       changed-other parent (with_children children) k (Some n) other ∙ (let none : Some n ≡ Some (with_child parent at child n) = grind (arith, nat_tests) in none)
 ]
+
+-- the same, by the children that it has
+pub child_put : (parent at child : ℕ) (k : ℕ) (o : Option Node) → ((n : Node) → o ≡ Some n → n.id ≡ k) → changed_at parent (with_child_at at child) k o ≡ option_map (with_child parent at child) o
+child_put parent at child k None id_is = changed-none parent (with_child_at at child) k
+child_put parent at child k (Some n) id_is = child_more parent at child (insert n.children at child) k (Some n) id_is (λ here. refl)
 
 -- relocated nodes are changed as the others
 pub relocated-among : (r : Relocation) (ids : List ℕ) (k : ℕ) (o : Option Node) → is_among ids k ≡ true → relocated_at r ids k o ≡ option_map (relocated r) o

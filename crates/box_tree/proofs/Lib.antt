@@ -1,3 +1,4 @@
+pub mod RoomLemmas
 pub mod ForestLemmas
 pub mod Grown
 pub mod NodesLemmas

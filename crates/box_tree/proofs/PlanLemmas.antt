@@ -2,6 +2,8 @@
 use Rattle.std.proofs.Common.{◌≡◌, ◌≢◌, ◌⊎◌, ℕ, ◌+◌, ◌-◌, ◌^◌, ◌<◌, ◌≤◌, ◌==◌, List, [], ◌∷◌, length, Option, Some, None, is_some, Bool, true, false, if◌then◌else◌, refl, sym, ap, ◌∙◌, subst, inl, inr, arith}
 use mathlib.Core.Bool.{false≢true}
 use Rattle.std.specs.Option.{option_map, option_map_or}
+use Rattle.std.specs.Prelude.{Vec}
+use Rattle.std.specs.declared.alloc.Global.{Global}
 use Rattle.std.proofs.lemmas.Bool.{cases_eq}
 use Rattle.std.proofs.lemmas.Bool.Decides.{nat_tests}
 use Rattle.computed_style.specs.declared.style.Style.{Style}
@@ -19,17 +21,17 @@ use Rattle.box_tree.specs.Contents.{Contents, node_at, node_of, placed_of, origi
 use Rattle.box_tree.specs.Counted.{IsCounted}
 use Rattle.box_tree.specs.Edited.{edited, answer_of, planted, put_below, ancestors_below, child_count}
 use Rattle.box_tree.specs.Forest.{Label, Forest, End, Grow, roots_of, node_count, Placed}
-use Rattle.box_tree.specs.Kept.{node_with, with_children, page_of, IsKept}
+use Rattle.box_tree.specs.Kept.{node_with, page_of, IsKept}
 use Rattle.box_tree.specs.Nodes.{NodesState, changed_at, ChangesAt}
 use Rattle.box_tree.specs.PageState.{PageState}
-use Rattle.box_tree.specs.Planned.{node_added, IsPlanned}
-use Rattle.box_tree.specs.Taken.{IsTaken, answer_by}
+use Rattle.box_tree.specs.Planned.{node_added, with_child_at, MayInsertAt, IsPlanned}
+use Rattle.box_tree.specs.Taken.{without_child_at, IsTaken, answer_by}
 use Rattle.box_tree.specs.Forms.{form_vertices}
 use Rattle.box_tree.specs.declared.sums.Sums.{Sums}
 use Rattle.box_tree.specs.Totals.{box_count, vertex_count, sums_in}
 use Rattle.box_tree.proofs.AddLemmas.{may_add, once_there, ancestors_below-none, kept-root, kept-below}
 use Rattle.box_tree.proofs.ForestLemmas.{single, placed_in-absent, node_in-absent, node_count-put_below}
-use Rattle.box_tree.proofs.KeptLemmas.{changed-none, children-back}
+use Rattle.box_tree.proofs.KeptLemmas.{changed-none, changed-here, changed-back, child-back, child_at}
 use Rattle.box_tree.proofs.KeptPages.{Means, means}
 pub use Rattle.box_tree.proofs.PlacedLemmas.{id-placed_in}
 use Rattle.box_tree.proofs.PutLemmas.{given-absent}
@@ -121,8 +123,8 @@ pub record AddsBoxes (page after : Contents) (count : ℕ) : Type 0 where
   pub most : count + box_count page.tree ≤ 262144
   pub vertices : vertex_count page.tree ≡ vertex_count after.tree
 
-pub boxes_added : (state : PageState) (edit : Edit) (node : Node) (siblings : List ℕ) → IsValid state.contents → IsPlanned (AddNode node siblings) edit state → AddsBoxes state.contents (edited state.contents edit) (length node.boxes)
-boxes_added state (Add parent at kind boxes style) node siblings valid planned =
+pub boxes_added : (state : PageState) (edit : Edit) (node : Node) (place : ℕ) (spare : Option (Vec ℕ Global)) → IsValid state.contents → IsPlanned (AddNode node place spare) edit state → AddsBoxes state.contents (edited state.contents edit) (length node.boxes)
+boxes_added state (Add parent at kind boxes style) node place spare valid planned =
     let page = state.contents in
     let may = may_add page parent at kind style boxes planned.faultless in
     let n = new_label page.next kind style boxes in
@@ -142,10 +144,10 @@ boxes_added state (Add parent at kind boxes style) node siblings valid planned =
             rw (planted-below parent at n page.tree named, total-put_below (λ m. form_vertices m.form) page.tree parent at n End (once_there page parent valid there)) (omega arith)
       ];
     }
-boxes_added state edit node siblings valid planned = absurd planned.plan_is
+boxes_added state edit node place spare valid planned = absurd planned.plan_is
 
 -- a planned add
-module _ (nodes : NodesState) (frame : Frame) (counted : IsCounted nodes frame.root frame.sums (state_of nodes frame).contents) (node : Node) (siblings : List ℕ) where
+module _ (nodes : NodesState) (frame : Frame) (counted : IsCounted nodes frame.root frame.sums (state_of nodes frame).contents) (node : Node) (place : ℕ) (spare : Option (Vec ℕ Global)) where
   -- the new id is not there, there is room for its node, and it has a place
   pub record CanAdd (given : NodesState) : Type 0 where
     pub absent : node_with given.nodes node.id ≡ None
@@ -157,14 +159,25 @@ module _ (nodes : NodesState) (frame : Frame) (counted : IsCounted nodes frame.r
   abbrev page : Contents
   page = (state_of nodes frame).contents
 
-  pub can_add : (edit : Edit) (given : NodesState) → IsPlanned (AddNode node siblings) edit (state_of nodes frame) → ChangesAt nodes given node.parent (with_children siblings) → CanAdd given
+  -- the parent of the new node is the one that the add names
+  parent_of-added : (parent at : ℕ) (kind : Kind) (boxes : List Piece) (style : Style) → IsPlanned (AddNode node place spare) (Add parent at kind boxes style) (state_of nodes frame) → node.parent ≡ parent
+  parent_of-added parent at kind boxes style planned =
+      ap (λ (n : Node). n.parent) planned.plan_is.node_is ∙ parent-node_added page parent kind style boxes counted.kept.valid (may_add page parent at kind style boxes planned.faultless).present
+
+  -- so it can take its child
+  pub may_give : (edit : Edit) → IsPlanned (AddNode node place spare) edit (state_of nodes frame) → MayInsertAt (node_with nodes.nodes node.parent) place spare
+  may_give (Add parent at kind boxes style) planned =
+      subst (λ o. MayInsertAt o place spare) (sym (ap (node_with nodes.nodes) (parent_of-added parent at kind boxes style planned) ∙ counted.kept.looked_up parent)) planned.plan_is.may_insert
+  may_give edit planned = absurd planned.plan_is
+
+  pub can_add : (edit : Edit) (given : NodesState) → IsPlanned (AddNode node place spare) edit (state_of nodes frame) → ChangesAt nodes given node.parent (with_child_at place node.id) → CanAdd given
   can_add (Add parent at kind boxes style) given planned gives =
       let may = may_add page parent at kind style boxes planned.faultless in
       let plan = planned.plan_is in
       let id_is : node.id ≡ page.next = ap (λ (n : Node). n.id) plan.node_is in
       let boxes_are : length node.boxes ≡ length boxes = ap (λ (n : Node). length n.boxes) plan.node_is in
       record {
-        absent = gives.looked_up node.id ∙ ap (changed_at node.parent (with_children siblings) node.id) (ap (node_with nodes.nodes) id_is ∙ counted.kept.looked_up page.next ∙ node_in-absent page.tree [] page.next (given-absent page.tree [] page.next page.next counted.kept.valid.given (inr (omega arith)))) ∙ changed-none node.parent (with_children siblings) node.id;
+        absent = gives.looked_up node.id ∙ ap (changed_at node.parent (with_child_at place node.id) node.id) (ap (node_with nodes.nodes) id_is ∙ counted.kept.looked_up page.next ∙ node_in-absent page.tree [] page.next (given-absent page.tree [] page.next page.next counted.kept.valid.given (inr (omega arith)))) ∙ changed-none node.parent (with_child_at place node.id) node.id;
         fits = omega (arith, gives.count, counted.count, plan.room, gives.same_room.room);
         placed = omega (arith, id_is, plan.placed, gives.same_room.ids);
         next = omega (arith, may.next);
@@ -172,42 +185,42 @@ module _ (nodes : NodesState) (frame : Frame) (counted : IsCounted nodes frame.r
       }
   can_add edit given planned gives = absurd planned.plan_is
 
-  pub planned-add : (edit : Edit) (given new : NodesState) (frame' : Frame) (had : List ℕ) → IsPlanned (AddNode node siblings) edit (state_of nodes frame) → ChangesAt nodes given node.parent (with_children siblings) →
-      had ≡ option_map_or (λ (n : Node). n.children) (node_with nodes.nodes node.parent) siblings →
+  pub planned-add : (edit : Edit) (given new : NodesState) (frame' : Frame) → IsPlanned (AddNode node place spare) edit (state_of nodes frame) → ChangesAt nodes given node.parent (with_child_at place node.id) →
       ((k : ℕ) → node_with new.nodes k ≡ (if node.id == k then Some node else node_with given.nodes k)) → length new.nodes ≡ length given.nodes + 1 → new.room ≡ given.room → new.ids ≡ given.ids →
       frame'.sums.boxes ≡ length node.boxes + frame.sums.boxes → frame'.sums.vertices ≡ frame.sums.vertices → frame'.root ≡ (if node.parent == 0 then Some node.id else frame.root) → frame'.viewport ≡ frame.viewport → frame'.next ≡ frame.next + 1 →
-      Carries new frame' (Added node.id node.parent had) (state_of nodes frame) edit
-  planned-add (Add parent at kind boxes style) given new frame' had planned gives had_is puts count room ids boxes_is vertices_is root_is viewport_is next_is =
+      Carries new frame' (Added node.id node.parent place) (state_of nodes frame) edit
+  planned-add (Add parent at kind boxes style) given new frame' planned gives puts count room ids boxes_is vertices_is root_is viewport_is next_is =
       let valid = counted.kept.valid in
       let may = may_add page parent at kind style boxes planned.faultless in
       let plan = planned.plan_is in
       let edit = Add parent at kind boxes style in
       let id_is : node.id ≡ page.next = ap (λ (n : Node). n.id) plan.node_is in
-      let parent_is : node.parent ≡ parent = ap (λ (n : Node). n.parent) plan.node_is ∙ parent-node_added page parent kind style boxes valid may.present in
-      let known : (k : ℕ) → node_with new.nodes k ≡ (if page.next == k then Some (node_added page parent kind style boxes) else changed_at parent (with_children siblings) k (node_with nodes.nodes k)) = (λ k.
+      let parent_is = parent_of-added parent at kind boxes style planned in
+      let known : (k : ℕ) → node_with new.nodes k ≡ (if page.next == k then Some (node_added page parent kind style boxes) else changed_at parent (with_child_at at page.next) k (node_with nodes.nodes k)) = (λ k.
       puts k ∙ ap (λ o. if node.id == k then Some node else o) (gives.looked_up k)
-      ∙ ap (λ i. if i == k then Some node else changed_at node.parent (with_children siblings) k (node_with nodes.nodes k)) id_is
-      ∙ ap (λ n. if page.next == k then Some n else changed_at node.parent (with_children siblings) k (node_with nodes.nodes k)) plan.node_is
-      ∙ ap (λ i. if page.next == k then Some (node_added page parent kind style boxes) else changed_at i (with_children siblings) k (node_with nodes.nodes k)) parent_is) in
+      ∙ ap (λ i. if i == k then Some node else changed_at node.parent (with_child_at place i) k (node_with nodes.nodes k)) id_is
+      ∙ ap (λ n. if page.next == k then Some n else changed_at node.parent (with_child_at place page.next) k (node_with nodes.nodes k)) plan.node_is
+      ∙ ap (λ i. if page.next == k then Some (node_added page parent kind style boxes) else changed_at i (with_child_at place page.next) k (node_with nodes.nodes k)) parent_is
+      ∙ ap (λ i. if page.next == k then Some (node_added page parent kind style boxes) else changed_at parent (with_child_at i page.next) k (node_with nodes.nodes k)) plan.place_is) in
       let label = new_label page.next kind style boxes in
       let kept : IsKept (node_with new.nodes) frame'.root (edited page edit) = elim (cases_eq parent 0) [
         | inl none_named ↦
             let first_is : frame'.root ≡ Some page.next = root_is ∙ ap (λ i. if i == 0 then Some node.id else frame.root) (parent_is ∙ none_named) ∙ ap Some id_is in
-            rw (first_is, planted-root parent at label page.tree none_named) (kept-root page valid parent at kind style boxes planned.in_range may (node_with nodes.nodes) (node_with new.nodes) siblings counted.kept.looked_up plan.siblings_are known none_named)
+            rw (first_is, planted-root parent at label page.tree none_named) (kept-root page valid parent at kind style boxes planned.in_range may (node_with nodes.nodes) (node_with new.nodes) counted.kept.looked_up known none_named)
         | inr named ↦
             let there : has_id page parent ≡ true = elim may.present [ inl none_named ↦ absurd (named none_named) | inr there' ↦ there' ] in
             let is_not : (node.parent == 0) ≡ false = (let apart : node.parent ≢ 0 = (λ is. named (sym parent_is ∙ is)) in grind (arith, nat_tests)) in
             let first_is : frame'.root ≡ frame.root = root_is ∙ ap (λ (b : Bool). if b then Some node.id else frame.root) is_not in
-            rw (first_is, planted-below parent at label page.tree named) (kept-below page valid parent at kind style boxes planned.in_range may (node_with nodes.nodes) (node_with new.nodes) siblings counted.kept.looked_up plan.siblings_are known there frame.root counted.kept.root)
+            rw (first_is, planted-below parent at label page.tree named) (kept-below page valid parent at kind style boxes planned.in_range may (node_with nodes.nodes) (node_with new.nodes) counted.kept.looked_up known there frame.root counted.kept.root)
       ] in
-      let adds = boxes_added (state_of nodes frame) edit node siblings valid planned in
+      let adds = boxes_added (state_of nodes frame) edit node place spare valid planned in
       let after_count : node_count (edited page edit).tree ≡ node_count page.tree + 1 = elim (cases_eq parent 0) [
         | inl none_named ↦ rw (planted-root parent at label page.tree none_named) (omega (arith, may.root none_named))
         | inr named ↦
             let there : has_id page parent ≡ true = elim may.present [ inl none_named ↦ absurd (named none_named) | inr there' ↦ there' ] in
             rw (planted-below parent at label page.tree named, node_count-put_below page.tree parent at label End (once_there page parent valid there)) (omega arith)
       ] in
-      carries new frame' (Added node.id node.parent had) (state_of nodes frame) edit kept
+      carries new frame' (Added node.id node.parent place) (state_of nodes frame) edit kept
       (record {
         count = omega (arith, count, gives.count, counted.count, after_count);
         sums = same_sums frame'.sums (sums_in (edited page edit).tree)
@@ -223,22 +236,33 @@ module _ (nodes : NodesState) (frame : Frame) (counted : IsCounted nodes frame.r
       })
       (record {
         looked_up = λ k. sym (
-            ap (λ o. if node.id == k then None else changed_at node.parent (with_children had) k o) (sym (kept.looked_up k) ∙ puts k ∙ ap (λ o. if node.id == k then Some node else o) (gives.looked_up k))
+            ap (λ o. if node.id == k then None else changed_at node.parent (without_child_at place) k o) (sym (kept.looked_up k) ∙ puts k ∙ ap (λ o. if node.id == k then Some node else o) (gives.looked_up k))
             ∙ back k);
         count = omega (arith, after_count);
-        can_go_back = ap is_some (sym (kept.looked_up node.id) ∙ puts node.id ∙ (let same : (node.id == node.id) ≡ true = grind (arith, nat_tests) in ap (λ (b : Bool). if b then Some node else node_with given.nodes node.id) same));
+        can_go_back = record {
+          there = ap is_some (sym (kept.looked_up node.id) ∙ puts node.id ∙ (let same : (node.id == node.id) ≡ true = grind (arith, nat_tests) in ap (λ (b : Bool). if b then Some node else node_with given.nodes node.id) same));
+          within = λ other n found.
+              let apart : (node.id == node.parent) ≡ false = grind (arith, nat_tests) in
+              let seen : node_of (edited page edit) node.parent ≡ option_map (with_child_at place node.id) (node_with nodes.nodes node.parent) =
+              sym (kept.looked_up node.parent) ∙ puts node.parent ∙ ap (λ (b : Bool). if b then Some node else node_with given.nodes node.parent) apart ∙ gives.looked_up node.parent
+              ∙ changed-here node.parent (with_child_at place node.id) node.parent (node_with nodes.nodes node.parent) refl in
+              child_at place node.id (node_with nodes.nodes node.parent) n (may_give edit planned).within (sym seen ∙ found);
+        };
         fits = omega (arith, plan.room, room, gives.same_room.room);
         next = omega arith;
       })
       (ap NodeAdded id_is)
     where
-      back : (k : ℕ) → (if node.id == k then None else changed_at node.parent (with_children had) k (if node.id == k then Some node else changed_at node.parent (with_children siblings) k (node_with nodes.nodes k))) ≡ node_of page k
+      goes : (n : Node) → node_with nodes.nodes node.parent ≡ Some n → without_child_at place (with_child_at place node.id n) ≡ n
+      goes n found = child-back place node.id n (subst (λ o. place ≤ option_map_or (λ (m : Node). length m.children) o place) found (may_give (Add parent at kind boxes style) planned).within)
+
+      back : (k : ℕ) → (if node.id == k then None else changed_at node.parent (without_child_at place) k (if node.id == k then Some node else changed_at node.parent (with_child_at place node.id) k (node_with nodes.nodes k))) ≡ node_of page k
       back k = elim (cases_eq node.id k) [
         | inl here ↦
             let is : (node.id == k) ≡ true = grind (arith, nat_tests) in
             rw is (sym (ap (node_of page) (sym here ∙ ap (λ (n : Node). n.id) planned.plan_is.node_is) ∙ node_in-absent page.tree [] page.next (given-absent page.tree [] page.next page.next counted.kept.valid.given (inr (omega arith)))))
         | inr other ↦
             let is : (node.id == k) ≡ false = grind (arith, nat_tests) in
-            rw is (children-back node.parent siblings had (node_with nodes.nodes) had_is k ∙ counted.kept.looked_up k)
+            rw is (changed-back node.parent (with_child_at place node.id) (without_child_at place) (node_with nodes.nodes) goes k ∙ counted.kept.looked_up k)
       ]
-  planned-add edit given new frame' had planned gives had_is puts count room ids boxes_is vertices_is root_is viewport_is next_is = absurd planned.plan_is
+  planned-add edit given new frame' planned gives puts count room ids boxes_is vertices_is root_is viewport_is next_is = absurd planned.plan_is

@@ -33,7 +33,10 @@ undo_from nodes frame counted state view_is taken taken' edit before after after
 
 -- what can go back depends on what is looked up and on the numbers alone
 can_go_back_so : (taken : Taken) (look look' : ℕ → Option Node) (count count' room room' : ℕ) (HasPlace HasPlace' : ℕ → Type 0) → ((k : ℕ) → look' k ≡ look k) → count' ≡ count → room' ≡ room → ((k : ℕ) → HasPlace k → HasPlace' k) → CanGoBack taken look count room HasPlace → CanGoBack taken look' count' room' HasPlace'
-can_go_back_so (Added id parent siblings) look look' count count' room room' HasPlace HasPlace' same counts rooms places can = ap is_some (same id) ∙ can
+can_go_back_so (Added id parent place) look look' count count' room room' HasPlace HasPlace' same counts rooms places can = record {
+  there = ap is_some (same id) ∙ can.there;
+  within = λ other n found. can.within other n (sym (same parent) ∙ found);
+}
 can_go_back_so (Removed parent siblings nodes) look look' count count' room room' HasPlace HasPlace' same counts rooms places can = record {
   apart = λ k is. same k ∙ can.apart k is;
   distinct = can.distinct;

@@ -15,6 +15,7 @@ pub mod Totals
 pub mod Counted
 pub mod Nodes
 pub mod Slots
+pub mod Room
 pub mod Change
 pub mod Taken
 pub mod Undone

@@ -20,20 +20,32 @@ use Rattle.box_tree.specs.Change.{changed}
 use Rattle.box_tree.specs.Edited.{IsInRange, first_fault, ancestors_below, laid_out, restyled, reshaped, scrolled_node}
 use Rattle.box_tree.specs.Kept.{with_children, with_label}
 use Rattle.box_tree.specs.Nodes.{changed_at}
+use Rattle.box_tree.specs.Room.{IsSpareFor}
 use Rattle.box_tree.specs.PageState.{PageState}
 
 -- the node that an add makes
 abbrev pub node_added : Contents → ℕ → Kind → Style → List Piece → Node
 node_added page parent kind style boxes = node_at (record { label = new_label page.next kind style boxes; above = ancestors_below page parent; below = End })
 
--- the children of `parent` with the new node as number `at` of them
-abbrev pub children_with : Contents → ℕ → ℕ → List ℕ
-children_with page parent at = option_map_or (λ n. insert n.children at page.next) (node_of page parent) []
+-- a node with one more child at a place
+abbrev pub with_child_at : ℕ → ℕ → Node → Node
+with_child_at place child n = with_children (insert n.children place child) n
 
--- a node and the new children of its parent, as an add needs them
-pub record IsAddPlan (page : PageState) (parent at : ℕ) (kind : Kind) (style : Style) (boxes : List Piece) (node : Node) (siblings : List ℕ) : Type 0 where
+-- the node, where it is there, can take one more child with this spare room
+abbrev pub HasSpareFor : Option Node → Option (Vec ℕ Global) → Type 0
+HasSpareFor None spare = Unit {0}
+HasSpareFor (Some n) spare = IsSpareFor (length n.children) spare
+
+-- the node, where it is there, can take one more child at this place with this spare room
+pub record MayInsertAt (parent : Option Node) (place : ℕ) (spare : Option (Vec ℕ Global)) : Type 0 where
+  pub within : place ≤ option_map_or (λ n. length n.children) parent place
+  pub spare_fits : HasSpareFor parent spare
+
+-- a node, its place among the children of its parent, and spare room for them, as an add needs them
+pub record IsAddPlan (page : PageState) (parent at : ℕ) (kind : Kind) (style : Style) (boxes : List Piece) (node : Node) (place : ℕ) (spare : Option (Vec ℕ Global)) : Type 0 where
   pub node_is : node ≡ node_added page.contents parent kind style boxes
-  pub siblings_are : siblings ≡ children_with page.contents parent at
+  pub place_is : place ≡ at
+  pub may_insert : MayInsertAt (node_of page.contents parent) place spare
   pub room : node_count page.contents.tree < page.room
   pub placed : page.contents.next < page.ids
 
@@ -126,7 +138,7 @@ pub record IsResizePlan (w h : ℤ) (max : Spot) (w' h' : ℤ) (max' : Spot) : T
 
 -- the plan is one for the edit on the page
 abbrev pub IsPlanFor : Plan → Edit → PageState → Type 0
-IsPlanFor (AddNode node siblings) (Add parent at kind boxes style) page = IsAddPlan page parent at kind style boxes node siblings
+IsPlanFor (AddNode node place spare) (Add parent at kind boxes style) page = IsAddPlan page parent at kind style boxes node place spare
 IsPlanFor (RemoveNodes parent siblings ids gone) (Remove id) page = IsRemovePlan page.contents id parent siblings ids gone
 IsPlanFor (MoveNodes place siblings children ids) (Move id parent at) page = IsMovePlan page.contents id parent at place siblings children ids
 IsPlanFor (ChangeNode id' change) (Place id anchor boxes max) page = IsChangePlan page.contents id (laid_out anchor boxes max) id' change

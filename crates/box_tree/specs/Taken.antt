@@ -1,6 +1,7 @@
 -- What an edit took out of the page or replaced, and the page before the edit by the page after it.
-use Rattle.std.specs.Prelude.{◌≡◌, ℕ, ◌+◌, ◌-◌, ◌<◌, ◌≤◌, List, [], ◌∷◌, length, Option, None, Some, IsSome, if◌then◌else◌, ◌==◌}
+use Rattle.std.specs.Prelude.{◌≡◌, ◌≢◌, ℕ, ◌+◌, ◌-◌, ◌<◌, ◌≤◌, List, [], ◌∷◌, length, Option, None, Some, IsSome, if◌then◌else◌, ◌==◌}
 use Rattle.std.specs.Option.{option_or, option_to_list}
+use Rattle.std.specs.List.{remove}
 use Rattle.box_tree.specs.declared.node.Node.{Node}
 use Rattle.box_tree.specs.declared.edit.Done.{Done}
 use Rattle.box_tree.specs.declared.edit.Done.TheVariants.{Node as NodeAdded, Done as EditDone}
@@ -15,9 +16,13 @@ use Rattle.box_tree.specs.Nodes.{changed_at}
 use Rattle.box_tree.specs.Planned.{times_in, moved_at, MayRelocateAll}
 use Rattle.box_tree.specs.Totals.{sums_in}
 
+-- a node without the child at a place
+abbrev pub without_child_at : ℕ → Node → Node
+without_child_at place n = with_children (remove n.children place) n
+
 -- what is looked up of an id before an edit, by what is looked up after it
 abbrev pub back_at : Taken → ℕ → Option Node → Option Node
-back_at (Added id parent siblings) k o = if id == k then None else changed_at parent (with_children siblings) k o
+back_at (Added id parent place) k o = if id == k then None else changed_at parent (without_child_at place) k o
 back_at (Removed parent siblings nodes) k o = changed_at parent (with_children siblings) k (option_or o (node_with nodes.items k))
 back_at (Moved place siblings children ids) k o = moved_at place siblings children ids k o
 back_at (Changed id change) k o = changed_at id (with_label (changed change)) k o
@@ -25,7 +30,7 @@ back_at Untouched k o = o
 
 -- how many nodes there are before an edit, by how many there are after it
 abbrev pub count_back : Taken → ℕ → ℕ
-count_back (Added id parent siblings) count = count - 1
+count_back (Added id parent place) count = count - 1
 count_back (Removed parent siblings nodes) count = count + length nodes.items
 count_back (Moved place siblings children ids) count = count
 count_back (Changed id change) count = count
@@ -48,9 +53,14 @@ pub record CanBePut (nodes : List Node) (look : ℕ → Option Node) (count room
   pub fits : count + length nodes ≤ room
   pub placed : (k : ℕ) → IsSome (node_with nodes k) → HasPlace k
 
+-- a node that came is there, and its parent, where another node is that, has a child at this place
+pub record CanTakeAdded (id parent place : ℕ) (look : ℕ → Option Node) : Type 0 where
+  pub there : IsSome (look id)
+  pub within : id ≢ parent → (n : Node) → look parent ≡ Some n → place < length n.children
+
 -- what was taken can go back
 abbrev pub CanGoBack : Taken → (ℕ → Option Node) → ℕ → ℕ → (ℕ → Type 0) → Type 0
-CanGoBack (Added id parent siblings) look count room HasPlace = IsSome (look id)
+CanGoBack (Added id parent place) look count room HasPlace = CanTakeAdded id parent place look
 CanGoBack (Removed parent siblings nodes) look count room HasPlace = CanBePut nodes.items look count room HasPlace
 CanGoBack (Moved place siblings children ids) look count room HasPlace = MayRelocateAll place ids look
 CanGoBack (Changed id change) look count room HasPlace = Unit {0}
@@ -73,7 +83,7 @@ pub record IsTaken (taken : Taken) (before after : Contents) (room : ℕ) : Type
 
 -- what an edit answers, by what it took
 abbrev pub answer_by : Taken → Done
-answer_by (Added id parent siblings) = NodeAdded id
+answer_by (Added id parent place) = NodeAdded id
 answer_by (Removed parent siblings nodes) = EditDone
 answer_by (Moved place siblings children ids) = EditDone
 answer_by (Changed id change) = EditDone

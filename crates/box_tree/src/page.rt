@@ -180,7 +180,7 @@ impl Page {
             page: _,
         } = prepared;
         let taken = match plan {
-            Plan::AddNode { node, siblings } => self.add(node, siblings, &edit),
+            Plan::AddNode { node, place, spare } => self.add(node, place, spare, &edit),
             Plan::RemoveNodes {
                 parent,
                 siblings,

@@ -58,10 +58,12 @@ pub(crate) struct Relocation {
 /// What carrying out an edit needs, with all its memory.
 #[derive(Drop)]
 pub(crate) enum Plan {
-    /// The new node, and the children that its parent then has.
+    /// The new node, its place among the children of its parent, and room for twice as many of them where one more might
+    /// find none.
     AddNode {
         node: Node,
-        siblings: IdList,
+        place: u32,
+        spare: Option<Vec<u32>>,
     },
     /// The parent of the node that goes, the children that the parent then has, the ids of all nodes that go, and room for
     /// them.
@@ -99,11 +101,11 @@ pub(crate) enum Plan {
 /// What carrying out an edit took out of the nodes of the page or replaced there, by which it is taken back.
 #[derive(Drop)]
 pub(crate) enum Taken {
-    /// The node that came, its parent, and the children that the parent had.
+    /// The node that came, its parent, and its place among the children.
     Added {
         id: u32,
         parent: u32,
-        siblings: IdList,
+        place: u32,
     },
     /// The parent of the node that went, the children that the parent had, and all nodes that went.
     Removed {

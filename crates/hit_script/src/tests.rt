@@ -19,6 +19,7 @@ mod painting;
 mod pointer;
 mod scripts;
 mod scrolls;
+mod svg;
 mod values;
 
 /// A piece as large as any.

@@ -19,19 +19,20 @@ use Rattle.spaces.specs.Values.{values_below}
 use Rattle.scroll_clip.specs.Curves.{border_curve, padding_curve}
 use Rattle.scroll_clip.specs.Clips.{inside_clips}
 use Rattle.point_query.specs.ImageMaps.{area_under}
+use Rattle.point_query.specs.Outlines.{outline_admits}
 use Rattle.stacking.specs.Painting.{layer}
 use Rattle.stacking.specs.OnPage.{of_node}
 
 -- The rows of admission, one for each sort of item: whether its area holds the local point of its node, and whether the
 -- values of the node let it be a target (SVG 2, "The 'pointer-events' property"; CSS 2.2, 11.2). The area of a box is its
 -- rounded border box, that of the content of an image the padding curve of its box (CSS Backgrounds and Borders 3, "Corner
--- Clipping"); outlines aren't painted yet.
+-- Clipping"); the outline of a shape has its interior and its perimeter.
 abbrev pub part_admits : Label → Inherited → FinePoint → Part → Bool
 part_admits n values at (Box place) =
     box_is_target values && option_map_or (λ box. in_rounded (border_curve n box) at.x at.y) (slice_get n.boxes place) false
 part_admits n values at Content =
     box_is_target values && option_map_or (λ box. in_rounded (padding_curve n box) at.x at.y) (slice_get n.boxes 0) false
-part_admits n values at Outline = false
+part_admits n values at Outline = outline_admits n values at
 
 -- whether the row of an item holds of its node, of what that inherits, and of its local point, where it has one
 abbrev pub row_holds : Contents → ℤ → ℤ → Item → Bool

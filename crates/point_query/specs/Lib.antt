@@ -1,3 +1,4 @@
 pub mod ImageMaps
+pub mod Outlines
 pub mod Chain
 pub mod Elements

@@ -1,14 +1,18 @@
 // Which items are admitted at a point of the viewport, and what element each of them belongs to.
-ghost use Rattle.std.specs.Prelude.{◌≡◌, ◌∷◌, [], slice_get, IsTrue, false};
+ghost use Rattle.std.specs.Prelude.{◌≡◌, ◌∷◌, [], ◌^◌, slice_get, IsTrue, IfSome, false};
 ghost use Rattle.std.specs.Option.{option_map_or, option_to_list};
 ghost use Rattle.corner_shapes.specs.Held.{in_rounded};
+ghost use Rattle.affine.specs.Function.{AreWithin};
+ghost use Rattle.computed_style.specs.Ranges.{IsSide};
 ghost use Rattle.box_tree.specs.Contents.{IsWithin};
+ghost use Rattle.box_tree.specs.Forms.{IsFormInRange};
 ghost use Rattle.box_tree.specs.Kept.{label_of};
 ghost use Rattle.spaces.specs.Bound.{is_bounded};
 ghost use Rattle.scroll_clip.specs.Curves.{border_curve, padding_curve, HasCurvesInRange};
 ghost use Rattle.point_query.specs.Elements.{elements_of, part_admits};
 
 use crate::areas::element_of;
+use crate::outlines::outline_admits;
 use box_tree::{Item, Node, Page, Part};
 use computed_style::{Inherited, admits_box};
 use fractions::{Ledger, Steps};
@@ -46,7 +50,10 @@ pub(crate) fn admitted_element<L: Ledger>(
 
 // Whether a part of a node is admitted at its local point, where it has one.
 fn admits_at(node: &Node, values: &Inherited, at: Option<FinePoint>, part: Part) -> bool
-    requires { HasCurvesInRange (label_of node.now) }
+    requires curves { HasCurvesInRange (label_of node.now) }
+    requires form { IfSome node.now.form IsFormInRange }
+    requires width { IsSide 26 values.now.stroke_width }
+    requires at { IfSome at (λ a. AreWithin (2 ^ 122) a.x a.y) }
     ensures { result ≡ option_map_or (λ a. part_admits (label_of node.now) values.now a part) at false }
 {
     match at {
@@ -57,13 +64,16 @@ fn admits_at(node: &Node, values: &Inherited, at: Option<FinePoint>, part: Part)
 
 // Whether a part of a node is admitted at its local point: its area holds the point, and its values let it be a target.
 fn part_admits(node: &Node, values: &Inherited, at: FinePoint, part: Part) -> bool
-    requires { HasCurvesInRange (label_of node.now) }
+    requires curves { HasCurvesInRange (label_of node.now) }
+    requires form { IfSome node.now.form IsFormInRange }
+    requires width { IsSide 26 values.now.stroke_width }
+    requires at { AreWithin (2 ^ 122) at.x at.y }
     ensures { result ≡ part_admits (label_of node.now) values.now at part }
 {
     match part {
         Part::Box { place } => { admits_box(values) && some_box_holds(node, place, at) }
         Part::Content => admits_box(values) && content_holds(node, at),
-        Part::Outline => false,
+        Part::Outline => outline_admits(node, values, at),
     }
 }
 

@@ -3,13 +3,14 @@
 //! It promises that the answers to `hit` and `top` are those of the definitions in `specs/Elements.antt`, which compute
 //! them from the root of the page as it stands, and that `chain` answers the definition of `specs/Chain.antt`. It stands on
 //! `tree_edits` for the engine, on `stacking` for the painting order, on `scroll_clip` and `corner_shapes` for the curves of
-//! boxes and for clips, on `spaces` for local points, on `box_tree` for the page and on `fractions` for the counter of steps.
+//! boxes and for clips, on `svg_shapes` for the outlines of shapes, on `spaces` for local points, on `box_tree` for the page and on `fractions` for the counter of steps.
 #![tactic(auto)]
 
 mod admission;
 mod areas;
 mod chains;
 mod elements;
+mod outlines;
 
 pub use chains::chain;
 pub use elements::{hit, top};

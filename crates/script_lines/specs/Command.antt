@@ -89,6 +89,10 @@ kind_named name =
     else if bytes_eq name (codes "text") then Some kind.Text
     else if bytes_eq name (codes "map") then Some kind.Map
     else if bytes_eq name (codes "area") then Some kind.Area
+    else if bytes_eq name (codes "svg") then Some kind.Svg
+    else if bytes_eq name (codes "group") then Some kind.Group
+    else if bytes_eq name (codes "shape") then Some kind.Shape
+    else if bytes_eq name (codes "inner") then Some kind.Inner
     else None
 
 -- the parent, the place and the kind of a new node

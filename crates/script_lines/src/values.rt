@@ -199,6 +199,10 @@ pub(crate) fn kind_from(found: Option<&Value>) -> Option<Kind>
         "text" => Some(Kind::Text),
         "map" => Some(Kind::Map),
         "area" => Some(Kind::Area),
+        "svg" => Some(Kind::Svg),
+        "group" => Some(Kind::Group),
+        "shape" => Some(Kind::Shape),
+        "inner" => Some(Kind::Inner),
         _ => None,
     }
 }

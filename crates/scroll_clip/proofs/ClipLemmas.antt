@@ -10,17 +10,17 @@ use Rattle.box_tree.specs.declared.piece.Piece.{Piece}
 use Rattle.box_tree.specs.declared.containing.Holder.{Holder}
 use Rattle.box_tree.specs.declared.containing.Holder.TheVariants.{Node as HolderNode}
 use Rattle.box_tree.specs.Forest.{Label, Placed}
-use Rattle.box_tree.specs.Contents.{Contents, node_of, placed_of, IsValid, IsSuited}
+use Rattle.box_tree.specs.Contents.{Contents, node_of, placed_of, IsValid}
 use Rattle.box_tree.specs.Forms.{IsFormInRange}
 use Rattle.box_tree.specs.declared.form.Form.{Form}
 use Rattle.box_tree.specs.declared.form.Form.TheVariants.{Outline, Cover, View, Port, MapName}
 use Rattle.box_tree.specs.Used.{has_box, gives_port, is_clipping}
 use Rattle.box_tree.specs.Containing.{Standing, parent_of, containing_block, containing_block_chain, clips}
 use Rattle.box_tree.specs.Kept.{label_of}
-use Rattle.box_tree.proofs.MoveLemmas.{each-placed}
 use Rattle.box_tree.proofs.PlacedLemmas.{seen_at}
 use Rattle.box_tree.proofs.ContainingLemmas.{standing, label-seen, held_by, unheld}
 use Rattle.spaces.specs.Spaces.{standing_at, local_point}
+use Rattle.spaces.proofs.SuitedLemmas.{suited-seen}
 use Rattle.scroll_clip.specs.Curves.{padding_curve, HasCurvesInRange}
 use Rattle.scroll_clip.specs.Clips.{port_clip, curve_by, clipping_curve, clip_set_by, clip_of, clip_holds, lets_in, inside_clips}
 
@@ -59,17 +59,14 @@ module _ (page : Contents) (valid : IsValid page) (id : ℕ) (node : Node) (seen
   -- the numbers of a node of the page are in range
   pub curves-seen : HasCurvesInRange (label_of node)
   curves-seen =
-      let suited = (each-placed IsSuited page.tree [] id (seen_at page id node seen).place valid.suited found).0 in
-      rw (label-seen page valid id node seen) (record {
+      let suited = suited-seen page valid id node seen in record {
         border = suited.style_in_range.border;
         radii = suited.style_in_range.radii;
         boxes = suited.in_range;
-      })
+      }
 
   pub form-seen : IfSome node.form IsFormInRange
-  form-seen =
-      let suited = (each-placed IsSuited page.tree [] id (seen_at page id node seen).place valid.suited found).0 in
-      subst (λ (l : Label). IfSome l.form IsFormInRange) (sym (label-seen page valid id node seen)) suited.formed.in_range
+  form-seen = (suited-seen page valid id node seen).formed.in_range
 
   -- the clip that a node sets, as a reader sees it
   pub clip-seen : clip_of page id ≡ (if clips page id then clipping_curve (label_of node) else None)

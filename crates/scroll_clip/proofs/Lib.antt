@@ -1,2 +1,3 @@
 pub mod CurveLemmas
 pub mod ClipLemmas
+pub mod FrameLemmas

@@ -8,3 +8,5 @@ pub mod WalkLemmas
 pub mod WidthLemmas
 pub mod ViewLemmas
 pub mod ShownLemmas
+pub mod SuitedLemmas
+pub mod FrameLemmas

@@ -1,10 +1,12 @@
 -- The values of a node from those of its parent.
 use Rattle.std.proofs.Common.{◌≡◌, ℕ, List, [], ◌∷◌, map, reverse, Option, Some, None, false, is_some, if◌then◌else◌, refl, sym, ap, ◌∙◌}
-use Rattle.std.specs.Prelude.{fold}
+use Rattle.std.specs.Prelude.{fold, unwrap_or, ℤ, IfSome}
 use Rattle.std.specs.Option.{option_map, option_map_or}
 use Rattle.std.proofs.lemmas.List.{reverse-append}
 use Rattle.std.proofs.lemmas.List.Sums.{fold-append}
 use Rattle.computed_style.specs.declared.style.Style.{Style}
+use Rattle.computed_style.specs.declared.inherited.Inherited.{Inherited}
+use Rattle.computed_style.specs.Ranges.{IsSide}
 use Rattle.computed_style.specs.Inheritance.{computed, initial_values}
 use Rattle.box_tree.specs.declared.node.Node.{Node}
 use Rattle.box_tree.specs.Forest.{Label, Placed}
@@ -21,6 +23,14 @@ values_along-cons n above =
     let styles = map (λ m. m.style) above in
     ap (λ (order : List Style). fold computed initial_values order) (reverse-append (n.style ∷ []) styles)
     ∙ fold-append computed initial_values (reverse styles) (n.style ∷ [])
+
+-- the width of a stroke stays within its limits
+pub width-computed : (above : Inherited) (own : Style) → IfSome own.stroke_width (IsSide 26) → IsSide 26 above.stroke_width → IsSide 26 (computed above own).stroke_width
+width-computed above own declared inherited = by_width own.stroke_width declared
+  where
+    by_width : (o : Option ℤ) → IfSome o (IsSide 26) → IsSide 26 (unwrap_or o above.stroke_width)
+    by_width None is = inherited
+    by_width (Some width) is = is
 
 -- an id of no node has nothing above it
 pub ancestors_below-absent : (page : Contents) (id : ℕ) → has_id page id ≡ false → ancestors_below page id ≡ []

@@ -1,4 +1,5 @@
-ghost use Rattle.std.specs.Prelude.{◌≡◌, IsTrue};
+ghost use Rattle.std.specs.Prelude.{◌≡◌, ◌^◌, IsTrue, IfSome};
+ghost use Rattle.affine.specs.Function.{AreWithin};
 ghost use Rattle.box_tree.specs.Contents.{has_id, IsWithin};
 ghost use Rattle.spaces.specs.Spaces.{space, local_point};
 ghost use Rattle.spaces.specs.Bound.{is_bounded};
@@ -32,7 +33,8 @@ pub fn plain_space<L: Ledger>(page: &Page, id: u32, steps: &mut Steps<L>) -> Opt
 }
 
 /// A point of the viewport, in units within 2^20, in the space of a node, in fine units: 64 times its exact preimage,
-/// rounded down. None exactly where the node has no space, or one that is singular.
+/// rounded down. Its coordinates are at most 2^122 in size. None exactly where the node has no space, or one that is
+/// singular.
 pub fn local_point<L: Ledger>(
     page: &Page,
     id: u32,
@@ -44,7 +46,8 @@ pub fn local_point<L: Ledger>(
     requires bounded { IsTrue (is_bounded page.now.contents) }
     requires x { IsWithin 20 x }
     requires y { IsWithin 20 y }
-    ensures { result ≡ local_point page.now.contents id x y }
+    ensures value { result ≡ local_point page.now.contents id x y }
+    ensures size { IfSome result (λ at. AreWithin (2 ^ 122) at.x at.y) }
 {
     let space = plain_space(page, id, steps)?;
     let (x, y) = local(&space, x, y)?;

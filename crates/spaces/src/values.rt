@@ -1,5 +1,6 @@
 // The values that a node inherits.
 ghost use Rattle.std.specs.Prelude.{◌≡◌, Some, IsTrue};
+ghost use Rattle.computed_style.specs.Ranges.{IsSide};
 ghost use Rattle.box_tree.specs.Contents.{has_id, IsValid};
 ghost use Rattle.box_tree.specs.Edited.{ancestors_below};
 ghost use Rattle.box_tree.specs.Suits.{is_text as names_text};
@@ -10,11 +11,12 @@ use computed_style::{Inherited, compute};
 use fractions::{Ledger, Steps};
 
 /// The values of a node: each that is declared on the node, and else the one of its parent, from the initial values
-/// above the root on down (CSS Cascading and Inheritance 4, "Inheritance"). A text takes its parent's. It reads the
-/// node and its ancestors, at most 256 of them.
+/// above the root on down (CSS Cascading and Inheritance 4, "Inheritance"). A text takes its parent's. The width of a
+/// stroke is 0 to 2^26 fine units. It reads the node and its ancestors, at most 256 of them.
 pub fn plain_values<L: Ledger>(page: &Page, id: u32, steps: &mut Steps<L>) -> Inherited
     requires { IsTrue (has_id page.now.contents id) }
-    ensures { values page.now.contents id ≡ Some result }
+    ensures value { values page.now.contents id ≡ Some result }
+    ensures width { IsSide 26 result.stroke_width }
 {
     page.validity();
     let node = page.node(id, steps);
@@ -28,7 +30,8 @@ pub fn plain_values<L: Ledger>(page: &Page, id: u32, steps: &mut Steps<L>) -> In
 // The values of an element and its ancestors, the initial ones above the root.
 fn values_from<L: Ledger>(page: &Page, id: u32, steps: &mut Steps<L>) -> Inherited
     requires { IsValid page.now.contents }
-    ensures { result ≡ values_along (ancestors_below page.now.contents id) }
+    ensures value { result ≡ values_along (ancestors_below page.now.contents id) }
+    ensures width { IsSide 26 result.stroke_width }
 {
     if !page.has(id) {
         return Inherited::initial();

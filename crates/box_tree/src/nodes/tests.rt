@@ -14,7 +14,7 @@ fn node_of(alloc: Global, id: u32) -> Node
         id,
         kind: Kind::Block,
         parent: 0,
-        children: IdList(Vec::new(alloc)),
+        children: IdList::new(alloc),
         depth: 1,
         style: Style::new(alloc),
         anchor: ORIGIN,

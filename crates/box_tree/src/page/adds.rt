@@ -1,15 +1,15 @@
 // An add: its faults, its plan, and carrying it out.
-ghost use Rattle.std.specs.Prelude.{◌≡◌, ◌≢◌, ◌+◌, ◌-◌, ◌^◌, ◌≤◌, ◌<◌, ◌==◌, ℕ, [], length, Some, None, IsSome, IfOk, IfErr, if◌then◌else◌};
-ghost use Rattle.std.specs.List.{insert};
+ghost use Rattle.std.specs.Prelude.{◌≡◌, ◌≢◌, ◌+◌, ◌-◌, ◌^◌, ◌≤◌, ◌<◌, ◌==◌, ℕ, length, Some, None, IfOk, IfErr, if◌then◌else◌};
 ghost use Rattle.std.specs.Option.{option_map_or, option_copied};
 ghost use Rattle.box_tree.specs.declared.edit.Edit.TheVariants.{Add};
 ghost use Rattle.box_tree.specs.Edited.{IsAddInRange, first_fault, edited, answer_of, ancestors_below};
 ghost use Rattle.box_tree.specs.Forest.{node_count};
 ghost use Rattle.box_tree.specs.Kept.{node_with, with_children};
+ghost use Rattle.box_tree.specs.declared.node.Node.{Node};
 ghost use Rattle.box_tree.specs.Nodes.{changed_at, HasSameRoom, ChangesAt};
-ghost use Rattle.box_tree.specs.Planned.{IsPlanned};
+ghost use Rattle.box_tree.specs.Planned.{with_child_at, HasSpareFor, MayInsertAt, IsPlanned};
 ghost use Rattle.box_tree.specs.Suits.{node_suits};
-ghost use Rattle.box_tree.specs.Taken.{IsTaken, answer_by};
+ghost use Rattle.box_tree.specs.Taken.{without_child_at, CanTakeAdded, IsTaken, answer_by};
 ghost use Rattle.box_tree.specs.declared.plan.Plan.TheVariants.{AddNode};
 
 use super::Page;
@@ -121,12 +121,12 @@ impl Page {
         let alloc = *self.nodes.allocator();
         let above = self.find(parent);
         let depth = seat_below(above).depth + 1;
-        let siblings = siblings_with(alloc, above, at, self.frame.next)?;
+        let spare = spare_below(alloc, above)?;
         let node = Node {
             id: self.frame.next,
             kind,
             parent,
-            children: IdList(Vec::new(alloc)),
+            children: IdList::new(alloc),
             depth,
             style: style.copy()?,
             anchor: ORIGIN,
@@ -135,12 +135,22 @@ impl Page {
             scroll: ORIGIN,
             max: ORIGIN,
         };
-        Ok(Plan::AddNode { node, siblings })
+        Ok(Plan::AddNode {
+            node,
+            place: at,
+            spare,
+        })
     }
 
     // Carries out a planned add.
-    pub(super) fn add(&mut self, node: Node, siblings: IdList, edit: &Snapshot<Edit>) -> Taken
-        requires { IsPlanned (AddNode node siblings) edit.now.value self.old }
+    pub(super) fn add(
+        &mut self,
+        node: Node,
+        place: u32,
+        spare: Option<Vec<u32>>,
+        edit: &Snapshot<Edit>,
+    ) -> Taken
+        requires { IsPlanned (AddNode node place spare) edit.now.value self.old }
         ensures contents { self.new.contents ≡ edited self.old.contents edit.now.value }
         ensures room { self.new.room ≡ self.old.room }
         ensures taken { IsTaken result self.old.contents self.new.contents self.new.room }
@@ -148,14 +158,10 @@ impl Page {
     {
         let id = node.id;
         let parent = node.parent;
-        let siblings = give_children(&mut self.nodes, parent, siblings);
+        give_child(&mut self.nodes, parent, place, id, spare);
         self.frame = frame_with(self.frame, id, parent, node.boxes.count());
         self.nodes.put(node);
-        Taken::Added {
-            id,
-            parent,
-            siblings,
-        }
+        Taken::Added { id, parent, place }
     }
 }
 
@@ -180,15 +186,41 @@ fn frame_with(frame: Frame, id: u32, parent: u32, boxes: usize) -> Frame
     }
 }
 
-// Takes the node of an id out, and gives its parent these children.
-pub(super) fn take_added(nodes: &mut Nodes, id: u32, parent: u32, siblings: IdList)
-    requires { IsSome (node_with nodes.old.nodes id) }
-    ensures looked_up { (k : ℕ) → node_with nodes.new.nodes k ≡ (if id == k then None else changed_at parent (with_children siblings) k (node_with nodes.old.nodes k)) }
+// Takes the node of an id out, and its id out of the children of its parent.
+pub(super) fn take_added(nodes: &mut Nodes, id: u32, parent: u32, place: u32)
+    requires { CanTakeAdded id parent place (node_with nodes.old.nodes) }
+    ensures looked_up { (k : ℕ) → node_with nodes.new.nodes k ≡ (if id == k then None else changed_at parent (without_child_at place) k (node_with nodes.old.nodes k)) }
     ensures count { length nodes.new.nodes + 1 ≡ length nodes.old.nodes }
     ensures same_room { HasSameRoom nodes.old nodes.new }
 {
     nodes.take(id);
-    give_children(nodes, parent, siblings);
+    take_child(nodes, parent, place);
+}
+
+// The node with this id, where it is there, gets one more child at a place, in the spare room where it is given.
+fn give_child(nodes: &mut Nodes, id: u32, place: u32, child: u32, spare: Option<Vec<u32>>)
+    requires { MayInsertAt (node_with nodes.old.nodes id) place spare }
+    ensures { ChangesAt nodes.old nodes.new id (with_child_at place child) }
+{
+    if nodes.find(id).is_none() {
+        return;
+    }
+    let mut node = nodes.take(id);
+    node.children.insert(place as usize, child, spare);
+    nodes.put(node);
+}
+
+// The node with this id, where it is there, loses the child at a place.
+fn take_child(nodes: &mut Nodes, id: u32, place: u32)
+    requires { (n : Node) → node_with nodes.old.nodes id ≡ Some n → place < length n.children }
+    ensures { ChangesAt nodes.old nodes.new id (without_child_at place) }
+{
+    if nodes.find(id).is_none() {
+        return;
+    }
+    let mut node = nodes.take(id);
+    node.children.remove(place as usize);
+    nodes.put(node);
 }
 
 // The seat below a node, or below none.
@@ -198,7 +230,7 @@ pub(super) fn seat_below(above: Option<&Node>) -> Seat
 {
     match above {
         Some(node) => Seat {
-            children: node.children.0.len(),
+            children: node.children.len(),
             depth: node.depth,
         },
         None => Seat {
@@ -208,19 +240,13 @@ pub(super) fn seat_below(above: Option<&Node>) -> Seat
     }
 }
 
-// The children of a node with one more at a place, and none where there is no node.
-fn siblings_with(
-    alloc: Global,
-    above: Option<&Node>,
-    at: u32,
-    id: u32,
-) -> Result<IdList, AllocError>
-    requires { at ≤ option_map_or (λ n. length n.children) (option_copied above) at }
-    ensures { IfOk result (λ list. list ≡ option_map_or (λ n. insert n.children at id) (option_copied above.entry) []) }
+// Room for twice the children of a node, where one more might find none.
+fn spare_below(alloc: Global, above: Option<&Node>) -> Result<Option<Vec<u32>>, AllocError>
+    ensures { IfOk result (λ spare. HasSpareFor (option_copied above.entry) spare) }
 {
     match above {
-        Some(node) => node.children.with(alloc, at as usize, id),
-        None => Ok(IdList(Vec::new(alloc))),
+        Some(node) => node.children.spare(alloc),
+        None => Ok(None),
     }
 }
 

@@ -130,7 +130,7 @@ pub(super) fn siblings_without(
 {
     match above {
         Some(node) => node.children.without(alloc, id),
-        None => Ok(IdList(Vec::new(alloc))),
+        None => Ok(IdList::new(alloc)),
     }
 }
 
@@ -141,7 +141,7 @@ pub(super) fn ids_of_tree(alloc: Global, page: &Page, id: u32) -> Result<IdList,
     page.validity();
     let mut ids = Vec::new(alloc);
     push_ids(page, id, &mut ids)?;
-    Ok(IdList(ids))
+    IdList::from_vec(ids)
 }
 
 // Appends the ids of a node and of all below it, in tree order.

@@ -20,11 +20,7 @@ pub(super) fn put_back(nodes: &mut Nodes, taken: Taken)
     ensures same_room { HasSameRoom nodes.old nodes.new }
 {
     match taken {
-        Taken::Added {
-            id,
-            parent,
-            siblings,
-        } => take_added(nodes, id, parent, siblings),
+        Taken::Added { id, parent, place } => take_added(nodes, id, parent, place),
         Taken::Removed {
             parent,
             siblings,

@@ -69,3 +69,51 @@ pub const AREAS_IN_BORDERS: &[u8] =
 
 pub const AREAS_IN_BORDERS_REPLIES: &[u8] =
     b"node 1\nnode 2\nnode 3\nnode 4\nnode 5\nok\nok\nhit 5 1\nok\nhit 5 1\nhit 3 1\nhit 3 1\nhit 4 1\nhit 5 1\nhit 4 1\nhit 5 1\nok\nhit 5 1\nok\nhit 5 1\nok\nok\nhit 5 1\nok\nhit 5 1\nerr 6 kind\nerr 6 kind\nerr 6 kind\nerr 6 kind\nerr 4 absent\nok\nerr 6 kind\nerr 6 kind\nerr 6 kind\nnode 6\nerr 6 kind\nerr 6 kind\nerr 6 kind\n";
+
+/// The areas of an image with round borders that is turned by a quarter, then halved, then doubled, so that points fall between
+/// its units: inside the padding curve an area, default the last one, takes the image's place; between the two curves it is the
+/// image itself, outside of both nothing. A singular map leaves nothing.
+pub const ROUNDED_AREAS: &[u8] =
+    br#"{"op":"add","parent":0,"at":0,"kind":"block","boxes":[[0,0,0,400,400]],"style":{}}
+{"op":"add","parent":1,"at":0,"kind":"map","boxes":[],"style":{}}
+{"op":"add","parent":2,"at":0,"kind":"area","boxes":[],"style":{}}
+{"op":"add","parent":2,"at":1,"kind":"area","boxes":[],"style":{}}
+{"op":"add","parent":2,"at":2,"kind":"area","boxes":[],"style":{}}
+{"op":"add","parent":1,"at":1,"kind":"image","boxes":[[0,0,0,100,100]],"style":{"border":[10,10,10,10],"radii":[30,30,30,30,30,30,30,30],"origin":[0,0],"transform":[["quarter",1]]}}
+{"op":"place","id":6,"anchor":[200,0],"boxes":[[0,0,0,100,100]],"max":[0,0]}
+{"op":"shape","id":3,"shape":["rect",[0,0,80,10]]}
+{"op":"shape","id":4,"shape":["circle",[40,40,30]]}
+{"op":"shape","id":5,"shape":["default"]}
+{"op":"shape","id":6,"shape":["map",2]}
+{"op":"hit","x":185,"y":50}
+{"op":"hit","x":181,"y":50}
+{"op":"hit","x":180,"y":50}
+{"op":"hit","x":150,"y":50}
+{"op":"hit","x":188,"y":12}
+{"op":"hit","x":195,"y":5}
+{"op":"hit","x":184,"y":16}
+{"op":"hit","x":185,"y":15}
+{"op":"hit","x":150,"y":85}
+{"op":"hit","x":150,"y":95}
+{"op":"hit","x":150,"y":100}
+{"op":"hit","x":150,"y":0}
+{"op":"hit","x":200,"y":50}
+{"op":"hit","x":201,"y":50}
+{"op":"hit","x":101,"y":50}
+{"op":"hit","x":100,"y":50}
+{"op":"style","id":6,"style":{"border":[10,10,10,10],"radii":[30,30,30,30,30,30,30,30],"origin":[0,0],"transform":[["scale",1,1,2]]}}
+{"op":"hit","x":225,"y":10}
+{"op":"hit","x":225,"y":9}
+{"op":"hit","x":207,"y":7}
+{"op":"hit","x":208,"y":8}
+{"op":"style","id":6,"style":{"border":[10,10,10,10],"radii":[30,30,30,30,30,30,30,30],"origin":[0,0],"transform":[["scale",2,2,1]]}}
+{"op":"hit","x":231,"y":31}
+{"op":"hit","x":232,"y":32}
+{"op":"hit","x":231,"y":32}
+{"op":"hit","x":231,"y":33}
+{"op":"style","id":6,"style":{"border":[10,10,10,10],"radii":[30,30,30,30,30,30,30,30],"origin":[0,0],"transform":[["scale",0,1,1]]}}
+{"op":"hit","x":200,"y":50}
+"#;
+
+pub const ROUNDED_AREAS_REPLIES: &[u8] =
+    b"node 1\nnode 2\nnode 3\nnode 4\nnode 5\nnode 6\nok\nok\nok\nok\nok\nhit 3 1\nhit 3 1\nhit 4 1\nhit 4 1\nhit 6 1\nhit 1\nhit 3 1\nhit 6 1\nhit 5 1\nhit 6 1\nhit 1\nhit 6 1\nhit 6 1\nhit 1\nhit 6 1\nhit 1\nok\nhit 4 1\nhit 3 1\nhit 6 1\nhit 3 1\nok\nhit 6 1\nhit 3 1\nhit 6 1\nhit 3 1\nok\nhit 1\n";

@@ -41,13 +41,17 @@ const REFUSED_MOVES: &[u8] =
 {"op":"hit","x":10,"y":10}
 {"op":"remove","id":9999}
 {"op":"hit","x":10,"y":10}
+{"op":"add","parent":1,"at":1,"kind":"text","boxes":[],"style":{}}
+{"op":"hit","x":10,"y":10}
+{"op":"add","parent":1,"at":1,"kind":"area","boxes":[],"style":{}}
+{"op":"hit","x":10,"y":10}
 {"op":"move","id":0,"parent":1,"at":0}
 {"op":"move","id":9,"parent":1,"at":0}
 {"op":"move","id":2,"parent":9,"at":0}
 "#;
 
 const REFUSED_MOVES_REPLIES: &[u8] =
-    b"node 1\nnode 2\nnode 3\nerr 7 cycle\nhit 3 2 1\nerr 8 place\nhit 3 2 1\nerr 5 root\nhit 3 2 1\nerr 5 root\nhit 3 2 1\nerr 5 root\nhit 3 2 1\nerr 4 absent\nhit 3 2 1\nerr 3 command\nerr 4 absent\nerr 4 absent\n";
+    b"node 1\nnode 2\nnode 3\nerr 7 cycle\nhit 3 2 1\nerr 8 place\nhit 3 2 1\nerr 5 root\nhit 3 2 1\nerr 5 root\nhit 3 2 1\nerr 5 root\nhit 3 2 1\nerr 4 absent\nhit 3 2 1\nerr 6 kind\nhit 3 2 1\nerr 6 kind\nhit 3 2 1\nerr 3 command\nerr 4 absent\nerr 4 absent\n";
 
 #[test]
 fn nodes_move_with_all_below_them(rt: HostRuntime) -> Result<(), Fail> {

@@ -1,6 +1,6 @@
 // Scripts and the replies to them.
 use super::{
-    THREE_BLOCKS, THREE_BLOCKS_REPLIES, areas, assert_replies, maps, painting, scrolls, values,
+    THREE_BLOCKS, THREE_BLOCKS_REPLIES, areas, assert_replies, maps, painting, scrolls, svg, values,
 };
 use std::test::Fail;
 
@@ -71,7 +71,7 @@ const VALUES: &[u8] =
 {"op":"add","parent":0,"at":0,"kind":"block","boxes":[[0,0,0,1]],"style":{}}
 {"op":"add","parent":0,"at":0,"kind":"block","boxes":[[0,0,0,1,1,1]],"style":{}}
 {"op":"add","parent":0,"at":0,"kind":"block","boxes":{},"style":{}}
-{"op":"add","parent":0,"at":0,"kind":"svg","boxes":[[0,0,0,1,1]],"style":{}}
+{"op":"add","parent":0,"at":0,"kind":"canvas","boxes":[[0,0,0,1,1]],"style":{}}
 {"op":"add","parent":0,"at":0,"kind":"block","boxes":[[0,0,0,1,1]],"style":{"z":2147483648}}
 {"op":"add","parent":0,"at":0,"kind":"block","boxes":[[0,0,0,1,1]],"style":[]}
 {"op":"add","parent":-1,"at":0,"kind":"block","boxes":[[0,0,0,1,1]],"style":{}}
@@ -226,6 +226,15 @@ fn scripts_are_answered(rt: HostRuntime) -> Result<(), Fail> {
         (maps::AT_THE_BOUND, maps::AT_THE_BOUND_REPLIES),
         (areas::AREAS, areas::AREAS_REPLIES),
         (areas::AREAS_IN_BORDERS, areas::AREAS_IN_BORDERS_REPLIES),
+        (areas::ROUNDED_AREAS, areas::ROUNDED_AREAS_REPLIES),
+        (svg::VIEWS, svg::VIEWS_REPLIES),
+        (svg::STAR, svg::STAR_REPLIES),
+        (svg::CAPS, svg::CAPS_REPLIES),
+        (svg::INTERIORS, svg::INTERIORS_REPLIES),
+        (svg::PERIMETERS, svg::PERIMETERS_REPLIES),
+        (svg::POINTER_EVENTS, svg::POINTER_EVENTS_REPLIES),
+        (svg::NESTED_VIEWPORTS, svg::NESTED_VIEWPORTS_REPLIES),
+        (svg::CONTENT_BY_KIND, svg::CONTENT_BY_KIND_REPLIES),
         (values::HIDDEN, values::HIDDEN_REPLIES),
         (values::NO_TARGETS, values::NO_TARGETS_REPLIES),
     ] {

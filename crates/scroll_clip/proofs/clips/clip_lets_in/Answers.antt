@@ -13,7 +13,7 @@ pub returns-in-Some : goal.returns-in-Some
 returns-in-Some g c =
     let x_is : to_z w64 (of_z w64 c.args.x) ≡ c.args.x = omega (arith, ints) in
     let y_is : to_z w64 (of_z w64 c.args.y) ≡ c.args.y = omega (arith, ints) in
-    let at_is = rw (x_is, y_is) at c.local_point.ensures in
+    let at_is = rw (x_is, y_is) at c.local_point.ensures.value in
     c.curve_holds.ensures
     ∙ ap (λ (at : Option FinePoint). clip_holds (Some c.in-Some.curve) at) at_is
     ∙ ap (λ (clip : Option Rounded). clip_holds clip (local_point c.args.page.now.contents c.args.id c.args.x c.args.y)) (sym c.in-Some.is)

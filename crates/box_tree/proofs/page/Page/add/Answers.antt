@@ -5,20 +5,23 @@ use Rattle.box_tree.specs.declared.plan.Taken.TheVariants.{Added}
 use Rattle.box_tree.specs.Edited.{edited, answer_of}
 use Rattle.box_tree.specs.PageState.{PageState}
 use Rattle.box_tree.specs.Planned.{IsPlanned}
-use Rattle.box_tree.proofs.PlanLemmas.{state_of, Carries, taken_as, CanAdd, can_add, planned-add}
+use Rattle.box_tree.proofs.PlanLemmas.{state_of, Carries, taken_as, CanAdd, may_give, can_add, planned-add}
 use Rattle.box_tree.proofs.page.Page.add.Goals as goal
+
+pub give_child-requires : goal.give_child-requires
+give_child-requires c = may_give c.self.inside.nodes c.self.inside.frame c.self.invariant c.args.node c.args.place c.args.spare c.args.edit.now.value (subst (λ (page : PageState). IsPlanned (AddNode c.args.node c.args.place c.args.spare) c.args.edit.now.value page) (sym c.self.view_is) c.requires)
 
 pub frame_with-self-inside-requires-clause-boxes : goal.frame_with-self-inside-requires-clause-boxes
 frame_with-self-inside-requires-clause-boxes c = omega (
   arith,
   c.count.ensures,
-  (can_add c.self.inside.nodes c.self.inside.frame c.self.invariant c.args.node c.args.siblings c.args.edit.now.value c.give_children-siblings.new.nodes
-      (subst (λ (page : PageState). IsPlanned (AddNode c.args.node c.args.siblings) c.args.edit.now.value page) (sym c.self.view_is) c.requires) c.give_children-siblings.ensures.changed).boxes,
+  (can_add c.self.inside.nodes c.self.inside.frame c.self.invariant c.args.node c.args.place c.args.spare c.args.edit.now.value c.give_child.new.nodes
+      (subst (λ (page : PageState). IsPlanned (AddNode c.args.node c.args.place c.args.spare) c.args.edit.now.value page) (sym c.self.view_is) c.requires) c.give_child.ensures).boxes,
 )
 
-can : (c : goal.After-put-arg-1) → CanAdd c.self.inside.nodes c.self.inside.frame c.self.invariant c.args.node c.args.siblings c.give_children-siblings.new.nodes
-can c = can_add c.self.inside.nodes c.self.inside.frame c.self.invariant c.args.node c.args.siblings c.args.edit.now.value c.give_children-siblings.new.nodes
-    (subst (λ (page : PageState). IsPlanned (AddNode c.args.node c.args.siblings) c.args.edit.now.value page) (sym c.self.view_is) c.requires) c.give_children-siblings.ensures.changed
+can : (c : goal.After-put-arg-1) → CanAdd c.self.inside.nodes c.self.inside.frame c.self.invariant c.args.node c.args.place c.args.spare c.give_child.new.nodes
+can c = can_add c.self.inside.nodes c.self.inside.frame c.self.invariant c.args.node c.args.place c.args.spare c.args.edit.now.value c.give_child.new.nodes
+    (subst (λ (page : PageState). IsPlanned (AddNode c.args.node c.args.place c.args.spare) c.args.edit.now.value page) (sym c.self.view_is) c.requires) c.give_child.ensures
 
 pub put-requires-clause-absent : goal.put-requires-clause-absent
 put-requires-clause-absent c = (can c).absent
@@ -29,13 +32,13 @@ put-requires-clause-fits c = (can c).fits
 pub put-requires-clause-placed : goal.put-requires-clause-placed
 put-requires-clause-placed c = (can c).placed
 
-carried : (c : goal.After-put) → Carries c.put.new.self c.frame_with-self-inside.result (Added c.args.node.id c.args.node.parent c.give_children-siblings.result) (state_of c.self.inside.nodes c.self.inside.frame) c.args.edit.now.value
+carried : (c : goal.After-put) → Carries c.put.new.self c.frame_with-self-inside.result (Added c.args.node.id c.args.node.parent c.args.place) (state_of c.self.inside.nodes c.self.inside.frame) c.args.edit.now.value
 carried c =
     let put = c.put.ensures in
     let frame = c.frame_with-self-inside.ensures in
-    planned-add c.self.inside.nodes c.self.inside.frame c.self.invariant c.args.node c.args.siblings c.args.edit.now.value c.give_children-siblings.new.nodes c.put.new.self c.frame_with-self-inside.result c.give_children-siblings.result
-    (subst (λ (page : PageState). IsPlanned (AddNode c.args.node c.args.siblings) c.args.edit.now.value page) (sym c.self.view_is) c.requires)
-    c.give_children-siblings.ensures.changed c.give_children-siblings.ensures.had put.looked_up put.count put.room put.ids
+    planned-add c.self.inside.nodes c.self.inside.frame c.self.invariant c.args.node c.args.place c.args.spare c.args.edit.now.value c.give_child.new.nodes c.put.new.self c.frame_with-self-inside.result
+    (subst (λ (page : PageState). IsPlanned (AddNode c.args.node c.args.place c.args.spare) c.args.edit.now.value page) (sym c.self.view_is) c.requires)
+    c.give_child.ensures put.looked_up put.count put.room put.ids
     (frame.boxes ∙ ap (λ count. count + c.self.inside.frame.sums.boxes) c.count.ensures) frame.vertices frame.root frame.viewport frame.next
 
 pub invariant_of-self : goal.invariant_of-self
@@ -45,7 +48,7 @@ pub returns-clause-contents : goal.returns-clause-contents
 returns-clause-contents c = (carried c).means.is ∙ ap (λ (page : PageState). edited page.contents c.args.edit.now.value) c.self.view_is
 
 pub returns-clause-room : goal.returns-clause-room
-returns-clause-room c = c.put.ensures.room ∙ c.give_children-siblings.ensures.changed.same_room.room ∙ ap (λ (page : PageState). page.room) c.self.view_is
+returns-clause-room c = c.put.ensures.room ∙ c.give_child.ensures.same_room.room ∙ ap (λ (page : PageState). page.room) c.self.view_is
 
 pub returns-clause-taken : goal.returns-clause-taken
 returns-clause-taken c = taken_as _ _ _ _ _ _ c.self.view_is (carried c)
