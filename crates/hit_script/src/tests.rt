@@ -9,6 +9,7 @@ use std::test::Fail;
 use tree_edits::Engine;
 
 mod areas;
+mod boxes;
 mod desks;
 mod edits;
 mod ends;

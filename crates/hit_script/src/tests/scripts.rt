@@ -1,6 +1,7 @@
 // Scripts and the replies to them.
 use super::{
-    THREE_BLOCKS, THREE_BLOCKS_REPLIES, areas, assert_replies, maps, painting, scrolls, svg, values,
+    THREE_BLOCKS, THREE_BLOCKS_REPLIES, areas, assert_replies, boxes, maps, painting, scrolls, svg,
+    values,
 };
 use std::test::Fail;
 
@@ -242,4 +243,20 @@ fn scripts_are_answered(rt: HostRuntime) -> Result<(), Fail> {
     }
     assert_replies(&rt, rt.alloc(), LAYOUTS, LAYOUTS_REPLIES)?;
     assert_replies(&rt, rt.alloc(), ROOT, b"node 1\n")
+}
+
+#[test]
+fn pages_of_boxes_are_answered(rt: HostRuntime) -> Result<(), Fail> {
+    for (script, replies) in [
+        (boxes::ANCHORS, boxes::ANCHORS_REPLIES),
+        (boxes::RESIZED, boxes::RESIZED_REPLIES),
+        (boxes::TEXT_IN_BORDERS, boxes::TEXT_IN_BORDERS_REPLIES),
+        (boxes::PASSED_OVER, boxes::PASSED_OVER_REPLIES),
+        (boxes::CLIPPED_CORNERS, boxes::CLIPPED_CORNERS_REPLIES),
+        (boxes::ROUNDED_CONTENT, boxes::ROUNDED_CONTENT_REPLIES),
+        (boxes::SCROLLED_LIST, boxes::SCROLLED_LIST_REPLIES),
+    ] {
+        assert_replies(&rt, rt.alloc(), script, replies)?;
+    }
+    Ok(())
 }
