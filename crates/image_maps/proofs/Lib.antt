@@ -1,3 +1,3 @@
 pub mod Circles
 pub mod Corners
-pub mod Tests
+pub mod TestedLemmas

@@ -2,7 +2,7 @@
 use Rattle.std.proofs.Common.{FitsSigned}
 use mir.Syntax.{w128}
 use Rattle.std.proofs.lemmas.Int.{to_z-of_z}
-use Rattle.image_maps.proofs.Tests.{is_test}
+use Rattle.image_maps.proofs.TestedLemmas.{is_test}
 use Rattle.image_maps.proofs.area.AreaShape.covers.Goals as goal
 
 pub returns-clause-test : goal.returns-clause-test
