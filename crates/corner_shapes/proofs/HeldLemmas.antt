@@ -9,10 +9,10 @@ use Rattle.corner_shapes.specs.Radii.{top_left, top_right, bottom_right, bottom_
 use Rattle.corner_shapes.specs.Curve.{IsBetweenEdges, FitsTopLeft, FitsTopRight, FitsBottomRight, FitsBottomLeft, FitsCorners, InRounded}
 use Rattle.corner_shapes.specs.Held.{ellipse_holds, holds_if, fits_top_left, fits_top_right, fits_bottom_right, fits_bottom_left, fits_corners, is_between_edges, in_rounded}
 
-le-decides : (a b : ℤ) → Decides (int_le a b) (a ≤ℤ b)
+pub le-decides : (a b : ℤ) → Decides (int_le a b) (a ≤ℤ b)
 le-decides a b = (λ t. grind (arith, ints), λ h. grind (arith, ints))
 
-lt-decides : (a b : ℤ) → Decides (int_lt a b) (a <ℤ b)
+pub lt-decides : (a b : ℤ) → Decides (int_lt a b) (a <ℤ b)
 lt-decides a b = (λ t. grind (arith, ints), λ h. grind (arith, ints))
 
 nat_le-decides : (m n : ℕ) → Decides (nat_le m n) (m ≤ n)

@@ -10,9 +10,12 @@ use tree_edits::Engine;
 
 mod areas;
 mod boxes;
+mod building;
 mod desks;
 mod edits;
 mod ends;
+mod kinds;
+mod limits;
 mod lines;
 mod loads;
 mod maps;
@@ -21,6 +24,7 @@ mod pointer;
 mod scripts;
 mod scrolls;
 mod svg;
+mod trees;
 mod values;
 
 /// A piece as large as any.

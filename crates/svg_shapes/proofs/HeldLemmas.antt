@@ -1,13 +1,12 @@
 -- The tests of what a shape holds are true exactly where the shape holds the point: each of their parts decides a part.
-use Rattle.std.proofs.Common.{◌≡◌, ℕ, ◌%◌, ◌<◌, ℤ, pos, ◌+ℤ◌, ◌≤ℤ◌, ◌<ℤ◌, Bool, false, Decides, IsTrue, ◌↔◌, List, arith}
+use Rattle.std.proofs.Common.{◌≡◌, ℕ, ◌%◌, ◌<◌, ℤ, pos, ◌+ℤ◌, ◌<ℤ◌, Bool, false, Decides, IsTrue, ◌↔◌, List}
 use Rattle.std.specs.Prelude.{not, ◌&&◌, nat_lt, int_le, int_lt}
 use Rattle.std.specs.Ordering.{int_eq}
-use Rattle.std.proofs.lemmas.Int.{ints}
 use Rattle.std.proofs.lemmas.Bool.{false≢true, leb-true, le-leb}
 use Rattle.std.proofs.lemmas.Bool.Decides.{Decides-and, Decides-not, Decides-ltb, Decides-eqb, Decides-int_eq, same_from_decides}
 use Rattle.std.proofs.lemmas.List.Folds.{Any-from_list_any, list_any-from_Any}
 use Rattle.corner_shapes.specs.Held.{ellipse_holds}
-use Rattle.corner_shapes.proofs.HeldLemmas.{in_rounded-decides}
+use Rattle.corner_shapes.proofs.HeldLemmas.{le-decides, lt-decides, in_rounded-decides}
 use Rattle.poly_shapes.specs.declared.segment.Segment.{Segment}
 use Rattle.poly_shapes.specs.declared.point.FillRule.{FillRule}
 use Rattle.poly_shapes.specs.declared.point.FillRule.TheVariants.{NonZero, EvenOdd}
@@ -25,12 +24,6 @@ use Rattle.svg_shapes.specs.Ellipses.{ellipse_of, grown_ellipse, shrunk_ellipse,
 use Rattle.svg_shapes.specs.Boxes.{InBox, InBoxes}
 use Rattle.svg_shapes.specs.Shapes.{box_of, Interior, Perimeter}
 use Rattle.svg_shapes.specs.Held.{is_filled, are_positive, rect_holds, is_in_rect, rect_band_holds, is_on_rect, is_in_ellipse, ellipse_band_holds, is_on_ellipse, is_in_box, is_in_boxes, is_in_interior, is_on_perimeter}
-
-le-decides : (a b : ℤ) → Decides (int_le a b) (a ≤ℤ b)
-le-decides a b = (λ t. grind (arith, ints), λ h. grind (arith, ints))
-
-lt-decides : (a b : ℤ) → Decides (int_lt a b) (a <ℤ b)
-lt-decides a b = (λ t. grind (arith, ints), λ h. grind (arith, ints))
 
 filled-decides : (rule : FillRule) (segments : List Segment) (x y : ℤ) → Decides (is_filled rule segments x y) (Fills rule segments x y)
 filled-decides NonZero segments x y = Decides-not (int_eq (winding segments x y) (pos 0)) (Decides-int_eq (winding segments x y) (pos 0))

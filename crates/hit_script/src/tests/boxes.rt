@@ -91,20 +91,6 @@ pub const PASSED_OVER: &[u8] =
 pub const PASSED_OVER_REPLIES: &[u8] =
     b"node 1\nnode 2\nnode 3\nnode 4\nnode 5\nok\nok\nhit 1\nhit 1\nok\nok\nhit 3 1\nhit 3 1\nhit 1\nhit 1\n";
 
-/// Radii come down to half of a height of 2,560, and inside a border of 640 to 640: what is inside is cut off there.
-pub const CLIPPED_CORNERS: &[u8] =
-    br#"{"op":"add","parent":0,"at":0,"kind":"block","boxes":[[0,0,0,12800,12800]],"style":{}}
-{"op":"add","parent":1,"at":0,"kind":"block","boxes":[[0,0,0,6400,2560]],"style":{"overflow":"hidden","border":[640,640,640,640],"radii":[639936,639936,639936,639936,639936,639936,639936,639936],"display":"block"}}
-{"op":"add","parent":2,"at":0,"kind":"block","boxes":[[0,0,0,6400,2560]],"style":{}}
-{"op":"hit","x":374,"y":374}
-{"op":"hit","x":375,"y":375}
-{"op":"hit","x":827,"y":827}
-{"op":"hit","x":828,"y":828}
-"#;
-
-pub const CLIPPED_CORNERS_REPLIES: &[u8] =
-    b"node 1\nnode 2\nnode 3\nhit 1\nhit 2 1\nhit 2 1\nhit 3 2 1\n";
-
 /// The content of an image lies above a block that comes after its box, inside the padding curve alone.
 pub const ROUNDED_CONTENT: &[u8] =
     br#"{"op":"add","parent":0,"at":0,"kind":"block","boxes":[[0,0,0,200,200]],"style":{}}
@@ -118,24 +104,3 @@ pub const ROUNDED_CONTENT: &[u8] =
 
 pub const ROUNDED_CONTENT_REPLIES: &[u8] =
     b"node 1\nnode 2\nnode 3\nhit 3 1\nhit 3 2 1\nhit 3 2 1\nhit 2 3 1\n";
-
-/// A list that clips cuts off what it holds and scrolls it, an absolute block only where the list is positioned.
-pub const SCROLLED_LIST: &[u8] =
-    br#"{"op":"add","parent":0,"at":0,"kind":"block","boxes":[[0,0,0,100,100]],"style":{}}
-{"op":"add","parent":1,"at":0,"kind":"block","boxes":[[0,10,10,40,40]],"style":{"overflow":"hidden","display":"block"}}
-{"op":"add","parent":2,"at":0,"kind":"block","boxes":[[0,0,0,20,80]],"style":{}}
-{"op":"add","parent":2,"at":1,"kind":"block","boxes":[[0,60,0,20,90]],"style":{"position":"absolute"}}
-{"op":"place","id":2,"anchor":[0,0],"boxes":[[0,10,10,40,40]],"max":[0,40]}
-{"op":"scroll","id":2,"x":0,"y":30}
-{"op":"hit","x":15,"y":45}
-{"op":"hit","x":15,"y":55}
-{"op":"hit","x":65,"y":85}
-{"op":"hit","x":75,"y":45}
-{"op":"scroll","id":2,"x":0,"y":999}
-{"op":"hit","x":15,"y":49}
-{"op":"style","id":2,"style":{"overflow":"hidden","position":"relative"}}
-{"op":"hit","x":75,"y":45}
-"#;
-
-pub const SCROLLED_LIST_REPLIES: &[u8] =
-    b"node 1\nnode 2\nnode 3\nnode 4\nok\nok\nhit 3 2 1\nhit 1\nhit 4 1\nhit 4 1\nok\nhit 3 2 1\nok\nhit 1\n";

@@ -1,25 +1,18 @@
 // Nodes that move, and edits that are refused.
 use super::assert_replies;
+use super::building::{push_add, push_nodes};
 use std::test::Fail;
 
 // A block in each other, from the child of node 3 down to the greatest depth, and one that is too deep.
 fn push_chain(script: &mut Vec<u8>) -> Result<(), Fail> {
-    let alloc = *script.allocator();
     for parent in 3u32..=256 {
-        let line = format!(in alloc;
-            "{{\"op\":\"add\",\"parent\":{parent},\"at\":0,\"kind\":\"block\",\"boxes\":[],\"style\":{{}}}}\n"
-        )?;
-        script.extend_from_slice(line.as_bytes())?;
+        push_add(script, parent, "block", 0)?;
     }
     Ok(())
 }
 
 fn push_chain_replies(replies: &mut Vec<u8>) -> Result<(), Fail> {
-    let alloc = *replies.allocator();
-    for id in 4u32..=256 {
-        let line = format!(in alloc; "node {id}\n")?;
-        replies.extend_from_slice(line.as_bytes())?;
-    }
+    push_nodes(replies, 4, 257)?;
     replies.extend_from_slice(b"err 9 deep\n")?;
     Ok(())
 }
@@ -65,8 +58,9 @@ fn nodes_move_with_all_below_them(rt: HostRuntime) -> Result<(), Fail> {
 {"op":"move","id":3,"parent":1,"at":2}
 {"op":"move","id":3,"parent":1,"at":1}
 {"op":"hit","x":10,"y":10}
+{"op":"add","parent":256,"at":0,"kind":"block","boxes":[],"style":{}}
 "#,
     )?;
-    replies.extend_from_slice(b"ok\nhit 2 3 1\nerr 8 place\nok\nhit 3 2 1\n")?;
+    replies.extend_from_slice(b"ok\nhit 2 3 1\nerr 8 place\nok\nhit 3 2 1\nnode 257\n")?;
     assert_replies(&rt, rt.alloc(), &script, &replies)
 }

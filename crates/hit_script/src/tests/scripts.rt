@@ -252,9 +252,9 @@ fn pages_of_boxes_are_answered(rt: HostRuntime) -> Result<(), Fail> {
         (boxes::RESIZED, boxes::RESIZED_REPLIES),
         (boxes::TEXT_IN_BORDERS, boxes::TEXT_IN_BORDERS_REPLIES),
         (boxes::PASSED_OVER, boxes::PASSED_OVER_REPLIES),
-        (boxes::CLIPPED_CORNERS, boxes::CLIPPED_CORNERS_REPLIES),
         (boxes::ROUNDED_CONTENT, boxes::ROUNDED_CONTENT_REPLIES),
-        (boxes::SCROLLED_LIST, boxes::SCROLLED_LIST_REPLIES),
+        (scrolls::CLAMPED_NODE, scrolls::CLAMPED_NODE_REPLIES),
+        (scrolls::WHAT_CLIPS, scrolls::WHAT_CLIPS_REPLIES),
     ] {
         assert_replies(&rt, rt.alloc(), script, replies)?;
     }

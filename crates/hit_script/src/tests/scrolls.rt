@@ -106,3 +106,77 @@ pub const ROUNDED: &[u8] =
 "#;
 
 pub const ROUNDED_REPLIES: &[u8] = b"node 1\nnode 2\nnode 3\nhit 1\nhit 2 1\nhit 2 1\nhit 3 2 1\n";
+
+/// The scroll of a node is clamped between 0 and the greatest one, each coordinate by itself, also to a new greatest one. The
+/// child stands at (20, 50) less the scroll.
+pub const CLAMPED_NODE: &[u8] =
+    br#"{"op":"add","parent":0,"at":0,"kind":"block","boxes":[[0,0,0,100,100]],"style":{}}
+{"op":"add","parent":1,"at":0,"kind":"block","boxes":[[0,0,0,100,100]],"style":{"overflow":"auto"}}
+{"op":"add","parent":2,"at":0,"kind":"block","boxes":[[0,20,50,10,10]],"style":{}}
+{"op":"add","parent":2,"at":1,"kind":"text","boxes":[],"style":{}}
+{"op":"scroll","id":2,"x":5,"y":5}
+{"op":"hit","x":20,"y":50}
+{"op":"hit","x":19,"y":50}
+{"op":"place","id":2,"anchor":[0,0],"boxes":[[0,0,0,100,100]],"max":[10,40]}
+{"op":"hit","x":20,"y":50}
+{"op":"hit","x":19,"y":50}
+{"op":"scroll","id":2,"x":5,"y":30}
+{"op":"hit","x":15,"y":20}
+{"op":"hit","x":14,"y":20}
+{"op":"hit","x":15,"y":19}
+{"op":"scroll","id":2,"x":999,"y":-1}
+{"op":"hit","x":10,"y":50}
+{"op":"hit","x":9,"y":50}
+{"op":"hit","x":10,"y":49}
+{"op":"scroll","id":2,"x":3,"y":999}
+{"op":"hit","x":17,"y":10}
+{"op":"hit","x":16,"y":10}
+{"op":"hit","x":17,"y":9}
+{"op":"place","id":2,"anchor":[0,0],"boxes":[[0,0,0,100,100]],"max":[2,7]}
+{"op":"hit","x":18,"y":43}
+{"op":"hit","x":17,"y":43}
+{"op":"hit","x":18,"y":42}
+{"op":"place","id":2,"anchor":[0,0],"boxes":[[0,0,0,100,100]],"max":[99,99]}
+{"op":"hit","x":18,"y":43}
+{"op":"hit","x":17,"y":43}
+{"op":"hit","x":18,"y":42}
+{"op":"scroll","id":4,"x":1,"y":1}
+{"op":"scroll","id":5,"x":1,"y":1}
+{"op":"scroll","id":0,"x":1,"y":1}
+{"op":"scroll","id":2,"x":67108864,"y":-67108864}
+{"op":"scroll","id":2,"x":-67108864,"y":67108864}
+{"op":"scroll","id":2,"x":67108865,"y":0}
+{"op":"scroll","id":2,"x":-67108865,"y":0}
+{"op":"scroll","id":2,"x":0,"y":67108865}
+{"op":"scroll","id":2,"x":0,"y":-67108865}
+{"op":"scrollview","x":67108864,"y":-67108864}
+{"op":"scrollview","x":-67108864,"y":67108864}
+{"op":"scrollview","x":67108865,"y":0}
+{"op":"scrollview","x":-67108865,"y":0}
+{"op":"scrollview","x":0,"y":67108865}
+{"op":"scrollview","x":0,"y":-67108865}
+{"op":"hit","x":0,"y":0}
+"#;
+
+pub const CLAMPED_NODE_REPLIES: &[u8] =
+    b"node 1\nnode 2\nnode 3\nnode 4\nok\nhit 3 2 1\nhit 2 1\nok\nhit 3 2 1\nhit 2 1\nok\nhit 3 2 1\nhit 2 1\nhit 2 1\nok\nhit 3 2 1\nhit 2 1\nhit 2 1\nok\nhit 3 2 1\nhit 2 1\nhit 2 1\nok\nhit 3 2 1\nhit 2 1\nhit 2 1\nok\nhit 3 2 1\nhit 2 1\nhit 2 1\nerr 6 kind\nerr 4 absent\nerr 3 command\nok\nok\nerr 3 command\nerr 3 command\nerr 3 command\nerr 3 command\nok\nok\nerr 3 command\nerr 3 command\nerr 3 command\nerr 3 command\nhit 2 1\n";
+
+/// A block container with a box clips; the root, an inline and a block without a box clip nothing.
+pub const WHAT_CLIPS: &[u8] =
+    br#"{"op":"add","parent":0,"at":0,"kind":"block","boxes":[[0,0,0,100,100]],"style":{"overflow":"hidden"}}
+{"op":"add","parent":1,"at":0,"kind":"block","boxes":[[0,0,0,10,10]],"style":{"overflow":"hidden"}}
+{"op":"add","parent":2,"at":0,"kind":"block","boxes":[[0,0,0,50,50]],"style":{}}
+{"op":"add","parent":1,"at":1,"kind":"inline","boxes":[[0,0,0,10,10]],"style":{"overflow":"hidden"}}
+{"op":"add","parent":4,"at":0,"kind":"block","boxes":[[0,0,20,50,50]],"style":{}}
+{"op":"add","parent":1,"at":2,"kind":"block","boxes":[],"style":{"overflow":"hidden"}}
+{"op":"add","parent":6,"at":0,"kind":"block","boxes":[[0,0,40,50,100]],"style":{}}
+{"op":"add","parent":1,"at":3,"kind":"inline-block","boxes":[[0,0,0,10,10]],"style":{"overflow":"hidden"}}
+{"op":"add","parent":8,"at":0,"kind":"block","boxes":[[0,0,0,50,50]],"style":{}}
+{"op":"hit","x":5,"y":5}
+{"op":"hit","x":15,"y":15}
+{"op":"hit","x":15,"y":25}
+{"op":"hit","x":15,"y":135}
+"#;
+
+pub const WHAT_CLIPS_REPLIES: &[u8] =
+    b"node 1\nnode 2\nnode 3\nnode 4\nnode 5\nnode 6\nnode 7\nnode 8\nnode 9\nhit 9 8 4 3 2 1\nhit 1\nhit 5 1\nhit 7 1\n";

@@ -1,6 +1,14 @@
 // Edits that are taken back, and then carried out.
-use super::layouts::{place, spot};
 use super::*;
+use fractions::Spot;
+
+// The name of the map of a node, where it has one.
+fn map_of(node: &Node) -> Option<u32> {
+    match &node.form {
+        Some(Form::MapName(map)) => Some(*map),
+        _ => None,
+    }
+}
 
 // Whether two nodes are alike.
 fn is_same(a: &Node, b: &Node) -> bool {
@@ -11,6 +19,7 @@ fn is_same(a: &Node, b: &Node) -> bool {
         && a.style.floats == b.style.floats
         && a.anchor == b.anchor
         && a.boxes.as_slice() == b.boxes.as_slice()
+        && map_of(a) == map_of(b)
         && a.scroll == b.scroll
         && a.max == b.max
 }
@@ -24,51 +33,88 @@ fn has_same(a: &Page, b: &Page, id: u32) -> bool {
     }
 }
 
-// Carries an edit out and takes it back.
+// Where a page takes an edit, carries it out and takes it back.
 fn revert(rt: &impl Abort, page: &mut Page, edit: &Edit) {
     assert!(rt; edit.in_range());
-    match page.check(edit) {
-        Ok(prepared) => {
-            let undo = page.commit(prepared);
-            page.revert(undo);
-        }
-        Err(_) => panic!(rt; "the edit has no fault"),
+    if let Ok(prepared) = page.check(edit) {
+        let undo = page.commit(prepared);
+        page.revert(undo);
     }
 }
 
-// An edit of each kind, and edits of trees of several nodes.
-fn each_kind(alloc: Global) -> Result<Vec<Edit>, Fail> {
-    let mut edits = Vec::new(alloc);
-    for (parent, at) in [(0, 0), (1, 0), (1, 1), (1, 1), (2, 0), (5, 0), (5, 1)] {
-        edits.push(block(alloc, parent, at, [(1, 2)].as_slice())?)?;
-    }
-    edits.push(place(alloc, 1, (7, -7), [(3, 4)].as_slice(), (5, 6))?)?;
-    edits.push(place(alloc, 5, (9, 8), [].as_slice(), (0, 2))?)?;
+fn place(alloc: Global, id: u32, boxes: usize) -> Result<Edit, Fail> {
+    Ok(Edit::Place {
+        id,
+        anchor: Spot { x: 7, y: -7 },
+        boxes: boxes_of(alloc, boxes)?,
+        max: Spot { x: 5, y: 6 },
+    })
+}
+
+// Edits that change a node or the viewport: each kind of them.
+fn push_changes(alloc: Global, edits: &mut Vec<Edit>) -> Result<(), Fail> {
+    edits.push(place(alloc, 1, 1)?)?;
+    edits.push(place(alloc, 5, 0)?)?;
     let mut style = Style::new(alloc);
     style.floats = true;
     edits.push(Edit::Restyle { id: 5, style })?;
     edits.push(Edit::Scroll { id: 1, x: 4, y: 9 })?;
+    edits.push(Edit::Reshape {
+        id: 8,
+        form: Form::MapName(7),
+    })?;
     edits.push(Edit::Resize {
         w: 64,
         h: 128,
-        max: spot((3, 4)),
+        max: Spot { x: 3, y: 4 },
     })?;
     edits.push(Edit::ScrollView { x: 9, y: 2 })?;
+    Ok(())
+}
+
+// Adds of blocks with a box.
+fn push_blocks(alloc: Global, edits: &mut Vec<Edit>, rows: &[(u32, u32)]) -> Result<(), Fail> {
+    for (parent, at) in rows {
+        edits.push(add(alloc, *parent, *at, Kind::Block, 1)?)?;
+    }
+    Ok(())
+}
+
+// An edit of each kind, edits of trees of several nodes, and adds in front, in the midst and at the end of the children of a
+// node, past each power of two up to eight.
+fn each_kind(alloc: Global) -> Result<Vec<Edit>, Fail> {
+    let mut edits = Vec::new(alloc);
+    let first = [(0, 0), (1, 0), (1, 1), (1, 1), (2, 0), (5, 0), (5, 1)];
+    push_blocks(alloc, &mut edits, &first)?;
+    edits.push(add(alloc, 4, 0, Kind::Image, 1)?)?;
+    push_changes(alloc, &mut edits)?;
     for (id, parent, at) in [(2, 4, 0), (5, 1, 1), (3, 1, 0), (4, 5, 2)] {
         edits.push(Edit::Move { id, parent, at })?;
     }
     for id in [6, 5, 1] {
         edits.push(Edit::Remove { id })?;
     }
-    edits.push(block(alloc, 0, 0, [(5, 6)].as_slice())?)?;
+    edits.push(add(alloc, 0, 0, Kind::Block, 1)?)?;
+    let last = [
+        (9, 0),
+        (9, 0),
+        (9, 1),
+        (9, 3),
+        (9, 0),
+        (9, 2),
+        (9, 6),
+        (9, 3),
+        (9, 8),
+        (9, 5),
+    ];
+    push_blocks(alloc, &mut edits, &last)?;
     Ok(edits)
 }
 
-// Carries an edit out and takes it back: the page is again like the other one, node by node.
-fn goes_back(rt: &impl Abort, page: &mut Page, other: &Page, edit: &Edit) {
-    revert(rt, page, edit);
-    for id in 0..16u32 {
-        assert!(rt; has_same(page, other, id), "{id} before {edit:?}");
+// Compares two pages, node by node.
+fn assert_same(rt: &impl Abort, page: &Page, other: &Page) {
+    for id in 0..page.next_id() {
+        assert!(rt; has_same(page, other, id), "{id}");
     }
     assert_eq!(rt; page.root(), other.root());
     assert_eq!(rt; page.count(), other.count());
@@ -89,53 +135,64 @@ fn an_edit_that_is_taken_back_leaves_the_page_as_it_was(rt: HostRuntime) -> Resu
     let mut page = Page::new(alloc, 81_920, 46_080);
     let mut other = Page::new(alloc, 81_920, 46_080);
     for edit in each_kind(alloc)?.as_slice() {
-        goes_back(&rt, &mut page, &other, edit);
+        revert(&rt, &mut page, edit);
+        assert_same(&rt, &page, &other);
         goes_on(&rt, &mut page, &mut other, edit);
     }
-    assert_eq!(rt; page.root(), Some(8));
+    assert_eq!(rt; page.root(), Some(9));
+    assert!(rt; page.has(9));
+    let children = children_with::<Brand>(alloc, &page, 9, Blank::new(1))?;
+    assert_eq!(rt;
+        children.as_slice(),
+        [14, 11, 15, 17, 12, 19, 10, 13, 16, 18].as_slice()
+    );
     Ok(())
 }
 
-// Whether the node is there and has these children.
-fn has_children(page: &Page, id: u32, children: &[u32]) -> bool {
-    match page.find(id) {
-        Some(node) => node.children.as_slice() == children,
-        None => false,
+// The next number of a walk, by a linear congruence.
+fn next_number(number: u32) -> u32 {
+    number.wrapping_mul(1_664_525).wrapping_add(1_013_904_223)
+}
+
+// The edit of a number, on a page that gives this id next; many of them have a fault.
+fn edit_of(alloc: Global, number: u32, next_id: u32) -> Result<Edit, Fail> {
+    let id = (number >> 3).checked_rem(next_id).unwrap_or(0).max(2);
+    let parent = (number >> 9).checked_rem(next_id).unwrap_or(0);
+    let at = (number >> 18) % 2;
+    match number >> 28 {
+        0..=5 => add(alloc, parent, at, Kind::Block, 1),
+        6..=8 => add(alloc, parent, at, Kind::Inline, 2),
+        9 => place(alloc, id, 1),
+        10 => place(alloc, id, 0),
+        11..=14 => Ok(Edit::Move { id, parent, at }),
+        _ => Ok(Edit::Remove { id }),
     }
 }
 
-// At each number of children up to ten an add in front, in the midst and at the end goes back, and one of these is kept.
+// A walk of edits, each taken back and done again, beside a page that never takes one back. At least a hundred are taken.
 #[test]
-fn adds_around_each_power_of_two_go_back(rt: HostRuntime) -> Result<(), Fail> {
+fn a_walk_of_edits_goes_back_at_each_step(rt: HostRuntime) -> Result<(), Fail> {
     let alloc = rt.alloc();
     let mut page = Page::new(alloc, 81_920, 46_080);
     let mut other = Page::new(alloc, 81_920, 46_080);
-    let root = block(alloc, 0, 0, [(0, 0)].as_slice())?;
-    goes_on(&rt, &mut page, &mut other, &root);
-    for (places, kept, children) in [
-        ([0, 0, 0], 0, [2].as_slice()),
-        ([0, 1, 1], 0, [3, 2].as_slice()),
-        ([0, 1, 2], 1, [3, 4, 2].as_slice()),
-        ([0, 2, 3], 3, [3, 4, 2, 5].as_slice()),
-        ([0, 2, 4], 0, [6, 3, 4, 2, 5].as_slice()),
-        ([0, 2, 5], 2, [6, 3, 7, 4, 2, 5].as_slice()),
-        ([0, 3, 6], 6, [6, 3, 7, 4, 2, 5, 8].as_slice()),
-        ([0, 3, 7], 3, [6, 3, 7, 9, 4, 2, 5, 8].as_slice()),
-        ([0, 4, 8], 0, [10, 6, 3, 7, 9, 4, 2, 5, 8].as_slice()),
-        ([0, 4, 9], 9, [10, 6, 3, 7, 9, 4, 2, 5, 8, 11].as_slice()),
-        (
-            [0, 5, 10],
-            5,
-            [10, 6, 3, 7, 9, 12, 4, 2, 5, 8, 11].as_slice(),
-        ),
-    ] {
-        for place in places {
-            let edit = block(alloc, 1, place, [(1, 2)].as_slice())?;
-            goes_back(&rt, &mut page, &other, &edit);
-        }
-        let edit = block(alloc, 1, kept, [(1, 2)].as_slice())?;
-        goes_on(&rt, &mut page, &mut other, &edit);
-        assert!(rt; has_children(&page, 1, children), "kept at {kept}");
+    goes_on(
+        &rt,
+        &mut page,
+        &mut other,
+        &add(alloc, 0, 0, Kind::Block, 1)?,
+    );
+    let mut number = 1;
+    let mut taken = 0u64;
+    for _ in 0..400 {
+        number = next_number(number);
+        let edit = edit_of(alloc, number, page.next_id())?;
+        revert(&rt, &mut page, &edit);
+        assert_same(&rt, &page, &other);
+        let done = answer(&rt, &mut page, &edit);
+        assert_eq!(rt; done, answer(&rt, &mut other, &edit));
+        assert_same(&rt, &page, &other);
+        taken = u64::from(done.is_ok()).saturating_add(taken);
     }
+    assert!(rt; taken >= 100);
     Ok(())
 }
