@@ -1,6 +1,8 @@
 // What suits which kind of node: tables and scripts, worked out by hand.
 use super::assert_replies;
 use super::building::{push_add, push_move, push_nodes, push_often};
+use std::alloc::Global;
+use std::process::Abort;
 use std::test::Fail;
 
 /// The kinds, in the order of the columns below.
@@ -37,6 +39,20 @@ const ONE_OF_EACH: &[u8] =
 
 const ONE_OF_EACH_REPLIES: &[u8] =
     b"node 1\nnode 2\nnode 3\nnode 4\nnode 5\nnode 6\nnode 7\nnode 8\nnode 9\nnode 10\nnode 11\nnode 12\n";
+
+// Compares the replies to the lines of a script that goes on from that page.
+fn assert_replies_there(
+    rt: &impl Abort,
+    alloc: Global,
+    script: &[u8],
+    replies: &[u8],
+) -> Result<(), Fail> {
+    let mut whole = Vec::from_slice(alloc, ONE_OF_EACH)?;
+    let mut all = Vec::from_slice(alloc, ONE_OF_EACH_REPLIES)?;
+    whole.extend_from_slice(script)?;
+    all.extend_from_slice(replies)?;
+    assert_replies(rt, alloc, &whole, &all)
+}
 
 /// What the nodes of that page may hold, a column for each kind: `x` where they may; the root holds no text.
 const HELD: [(u32, &[u8; 11]); 12] = [
@@ -92,8 +108,8 @@ fn push_pairs(script: &mut Vec<u8>, mark: u8) -> Result<(), Fail> {
 #[test]
 fn kinds_hold_one_another_by_the_table(rt: HostRuntime) -> Result<(), Fail> {
     let alloc = rt.alloc();
-    let mut script = Vec::from_slice(alloc, ONE_OF_EACH)?;
-    let mut replies = Vec::from_slice(alloc, ONE_OF_EACH_REPLIES)?;
+    let mut script = Vec::new(alloc);
+    let mut replies = Vec::new(alloc);
     for (kind, home) in KINDS.iter().zip(HOMES) {
         push_add(&mut script, home, kind, 0)?;
     }
@@ -103,7 +119,7 @@ fn kinds_hold_one_another_by_the_table(rt: HostRuntime) -> Result<(), Fail> {
     push_pairs(&mut script, b'x')?;
     push_often(&mut replies, b"ok\n", 37)?;
     push_nodes(&mut replies, 24, 61)?;
-    assert_replies(&rt, alloc, &script, &replies)
+    assert_replies_there(&rt, alloc, &script, &replies)
 }
 
 /// Only a block with one box is a root.
@@ -126,20 +142,7 @@ const ROOTS_REPLIES: &[u8] =
     b"err 6 kind\nerr 6 kind\nerr 6 kind\nerr 6 kind\nerr 6 kind\nerr 6 kind\nerr 6 kind\nerr 6 kind\nerr 6 kind\nerr 6 kind\nerr 6 kind\nerr 6 kind\nnode 1\n";
 
 /// An add and a place have so many boxes or not, by the kind.
-const BOXES: &[u8] =
-    br#"{"op":"add","parent":0,"at":0,"kind":"block","boxes":[[0,0,0,100,100]],"style":{}}
-{"op":"add","parent":1,"at":0,"kind":"block","boxes":[],"style":{}}
-{"op":"add","parent":1,"at":0,"kind":"inline","boxes":[],"style":{}}
-{"op":"add","parent":1,"at":0,"kind":"inline-block","boxes":[],"style":{}}
-{"op":"add","parent":1,"at":0,"kind":"image","boxes":[],"style":{}}
-{"op":"add","parent":2,"at":0,"kind":"text","boxes":[],"style":{}}
-{"op":"add","parent":1,"at":0,"kind":"svg","boxes":[],"style":{}}
-{"op":"add","parent":1,"at":0,"kind":"map","boxes":[],"style":{}}
-{"op":"add","parent":8,"at":0,"kind":"area","boxes":[],"style":{}}
-{"op":"add","parent":7,"at":0,"kind":"group","boxes":[],"style":{}}
-{"op":"add","parent":7,"at":0,"kind":"shape","boxes":[],"style":{}}
-{"op":"add","parent":7,"at":0,"kind":"inner","boxes":[],"style":{}}
-{"op":"add","parent":2,"at":0,"kind":"block","boxes":[],"style":{}}
+const BOXES: &[u8] = br#"{"op":"add","parent":2,"at":0,"kind":"block","boxes":[],"style":{}}
 {"op":"place","id":2,"anchor":[0,0],"boxes":[],"max":[0,0]}
 {"op":"add","parent":2,"at":0,"kind":"block","boxes":[[0,0,0,0,0]],"style":{}}
 {"op":"place","id":2,"anchor":[0,0],"boxes":[[0,0,0,0,0]],"max":[0,0]}
@@ -190,23 +193,10 @@ const BOXES: &[u8] =
 "#;
 
 const BOXES_REPLIES: &[u8] =
-    b"node 1\nnode 2\nnode 3\nnode 4\nnode 5\nnode 6\nnode 7\nnode 8\nnode 9\nnode 10\nnode 11\nnode 12\nnode 13\nok\nnode 14\nok\nerr 6 kind\nerr 6 kind\nnode 15\nok\nnode 16\nok\nnode 17\nok\nerr 6 kind\nerr 6 kind\nnode 18\nok\nerr 6 kind\nerr 6 kind\nnode 19\nok\nnode 20\nok\nnode 21\nok\nerr 6 kind\nerr 6 kind\nnode 22\nerr 6 kind\nerr 6 kind\nerr 6 kind\nnode 23\nerr 6 kind\nerr 6 kind\nerr 6 kind\nnode 24\nerr 6 kind\nerr 6 kind\nerr 6 kind\nnode 25\nerr 6 kind\nerr 6 kind\nerr 6 kind\nnode 26\nerr 6 kind\nerr 6 kind\nerr 6 kind\nerr 6 kind\nerr 6 kind\n";
+    b"node 13\nok\nnode 14\nok\nerr 6 kind\nerr 6 kind\nnode 15\nok\nnode 16\nok\nnode 17\nok\nerr 6 kind\nerr 6 kind\nnode 18\nok\nerr 6 kind\nerr 6 kind\nnode 19\nok\nnode 20\nok\nnode 21\nok\nerr 6 kind\nerr 6 kind\nnode 22\nerr 6 kind\nerr 6 kind\nerr 6 kind\nnode 23\nerr 6 kind\nerr 6 kind\nerr 6 kind\nnode 24\nerr 6 kind\nerr 6 kind\nerr 6 kind\nnode 25\nerr 6 kind\nerr 6 kind\nerr 6 kind\nnode 26\nerr 6 kind\nerr 6 kind\nerr 6 kind\nerr 6 kind\nerr 6 kind\n";
 
 /// A text, a map and an area have the empty style alone, also where a value is the initial one, and take no other one.
-const STYLES: &[u8] =
-    br#"{"op":"add","parent":0,"at":0,"kind":"block","boxes":[[0,0,0,100,100]],"style":{}}
-{"op":"add","parent":1,"at":0,"kind":"block","boxes":[],"style":{}}
-{"op":"add","parent":1,"at":0,"kind":"inline","boxes":[],"style":{}}
-{"op":"add","parent":1,"at":0,"kind":"inline-block","boxes":[],"style":{}}
-{"op":"add","parent":1,"at":0,"kind":"image","boxes":[],"style":{}}
-{"op":"add","parent":2,"at":0,"kind":"text","boxes":[],"style":{}}
-{"op":"add","parent":1,"at":0,"kind":"svg","boxes":[],"style":{}}
-{"op":"add","parent":1,"at":0,"kind":"map","boxes":[],"style":{}}
-{"op":"add","parent":8,"at":0,"kind":"area","boxes":[],"style":{}}
-{"op":"add","parent":7,"at":0,"kind":"group","boxes":[],"style":{}}
-{"op":"add","parent":7,"at":0,"kind":"shape","boxes":[],"style":{}}
-{"op":"add","parent":7,"at":0,"kind":"inner","boxes":[],"style":{}}
-{"op":"add","parent":2,"at":0,"kind":"text","boxes":[],"style":{}}
+const STYLES: &[u8] = br#"{"op":"add","parent":2,"at":0,"kind":"text","boxes":[],"style":{}}
 {"op":"add","parent":2,"at":0,"kind":"text","boxes":[],"style":{"z":0}}
 {"op":"add","parent":2,"at":0,"kind":"text","boxes":[],"style":{"display":"block"}}
 {"op":"add","parent":2,"at":0,"kind":"text","boxes":[],"style":{"visibility":"visible"}}
@@ -228,23 +218,10 @@ const STYLES: &[u8] =
 "#;
 
 const STYLES_REPLIES: &[u8] =
-    b"node 1\nnode 2\nnode 3\nnode 4\nnode 5\nnode 6\nnode 7\nnode 8\nnode 9\nnode 10\nnode 11\nnode 12\nnode 13\nerr 6 kind\nerr 6 kind\nerr 6 kind\nnode 14\nnode 15\nerr 6 kind\nerr 6 kind\nnode 16\nnode 17\nerr 3 command\nerr 6 kind\nerr 6 kind\nerr 6 kind\nerr 3 command\nerr 4 absent\nok\nok\nok\n";
+    b"node 13\nerr 6 kind\nerr 6 kind\nerr 6 kind\nnode 14\nnode 15\nerr 6 kind\nerr 6 kind\nnode 16\nnode 17\nerr 3 command\nerr 6 kind\nerr 6 kind\nerr 6 kind\nerr 3 command\nerr 4 absent\nok\nok\nok\n";
 
 /// A kind that doesn't suit comes before a cycle and a place that isn't there.
-const ORDER: &[u8] =
-    br#"{"op":"add","parent":0,"at":0,"kind":"block","boxes":[[0,0,0,100,100]],"style":{}}
-{"op":"add","parent":1,"at":0,"kind":"block","boxes":[],"style":{}}
-{"op":"add","parent":1,"at":0,"kind":"inline","boxes":[],"style":{}}
-{"op":"add","parent":1,"at":0,"kind":"inline-block","boxes":[],"style":{}}
-{"op":"add","parent":1,"at":0,"kind":"image","boxes":[],"style":{}}
-{"op":"add","parent":2,"at":0,"kind":"text","boxes":[],"style":{}}
-{"op":"add","parent":1,"at":0,"kind":"svg","boxes":[],"style":{}}
-{"op":"add","parent":1,"at":0,"kind":"map","boxes":[],"style":{}}
-{"op":"add","parent":8,"at":0,"kind":"area","boxes":[],"style":{}}
-{"op":"add","parent":7,"at":0,"kind":"group","boxes":[],"style":{}}
-{"op":"add","parent":7,"at":0,"kind":"shape","boxes":[],"style":{}}
-{"op":"add","parent":7,"at":0,"kind":"inner","boxes":[],"style":{}}
-{"op":"move","id":2,"parent":6,"at":0}
+const ORDER: &[u8] = br#"{"op":"move","id":2,"parent":6,"at":0}
 {"op":"move","id":6,"parent":1,"at":9}
 {"op":"move","id":1,"parent":5,"at":0}
 {"op":"move","id":4,"parent":5,"at":0}
@@ -254,23 +231,10 @@ const ORDER: &[u8] =
 "#;
 
 const ORDER_REPLIES: &[u8] =
-    b"node 1\nnode 2\nnode 3\nnode 4\nnode 5\nnode 6\nnode 7\nnode 8\nnode 9\nnode 10\nnode 11\nnode 12\nerr 6 kind\nerr 6 kind\nerr 5 root\nerr 6 kind\nerr 7 cycle\nerr 8 place\nok\n";
+    b"err 6 kind\nerr 6 kind\nerr 5 root\nerr 6 kind\nerr 7 cycle\nerr 8 place\nok\n";
 
 /// Each sort of shape on a node of each kind.
-const SHAPES: &[u8] =
-    br#"{"op":"add","parent":0,"at":0,"kind":"block","boxes":[[0,0,0,100,100]],"style":{}}
-{"op":"add","parent":1,"at":0,"kind":"block","boxes":[],"style":{}}
-{"op":"add","parent":1,"at":0,"kind":"inline","boxes":[],"style":{}}
-{"op":"add","parent":1,"at":0,"kind":"inline-block","boxes":[],"style":{}}
-{"op":"add","parent":1,"at":0,"kind":"image","boxes":[],"style":{}}
-{"op":"add","parent":2,"at":0,"kind":"text","boxes":[],"style":{}}
-{"op":"add","parent":1,"at":0,"kind":"svg","boxes":[],"style":{}}
-{"op":"add","parent":1,"at":0,"kind":"map","boxes":[],"style":{}}
-{"op":"add","parent":8,"at":0,"kind":"area","boxes":[],"style":{}}
-{"op":"add","parent":7,"at":0,"kind":"group","boxes":[],"style":{}}
-{"op":"add","parent":7,"at":0,"kind":"shape","boxes":[],"style":{}}
-{"op":"add","parent":7,"at":0,"kind":"inner","boxes":[],"style":{}}
-{"op":"shape","id":1,"shape":["map",8]}
+const SHAPES: &[u8] = br#"{"op":"shape","id":1,"shape":["map",8]}
 {"op":"shape","id":1,"shape":["view",0,0,4096,4096,"xMidYMid","meet"]}
 {"op":"shape","id":1,"shape":["default"]}
 {"op":"shape","id":1,"shape":["circle",0,0,64]}
@@ -335,18 +299,18 @@ const SHAPES: &[u8] =
 "#;
 
 const SHAPES_REPLIES: &[u8] =
-    b"node 1\nnode 2\nnode 3\nnode 4\nnode 5\nnode 6\nnode 7\nnode 8\nnode 9\nnode 10\nnode 11\nnode 12\nerr 6 kind\nerr 6 kind\nerr 6 kind\nerr 6 kind\nerr 6 kind\nerr 6 kind\nerr 6 kind\nerr 6 kind\nerr 6 kind\nerr 6 kind\nerr 6 kind\nerr 6 kind\nerr 6 kind\nerr 6 kind\nerr 6 kind\nerr 6 kind\nerr 6 kind\nerr 6 kind\nerr 6 kind\nerr 6 kind\nok\nerr 6 kind\nerr 6 kind\nerr 6 kind\nerr 6 kind\nerr 6 kind\nerr 6 kind\nerr 6 kind\nerr 6 kind\nerr 6 kind\nerr 6 kind\nok\nerr 6 kind\nerr 6 kind\nerr 6 kind\nerr 6 kind\nerr 6 kind\nerr 6 kind\nerr 6 kind\nerr 6 kind\nerr 6 kind\nerr 6 kind\nok\nerr 6 kind\nerr 6 kind\nerr 6 kind\nerr 6 kind\nerr 6 kind\nerr 6 kind\nerr 6 kind\nerr 6 kind\nerr 6 kind\nerr 6 kind\nok\nerr 6 kind\nerr 6 kind\nerr 6 kind\nerr 6 kind\nerr 6 kind\nok\nerr 4 absent\nerr 3 command\n";
+    b"err 6 kind\nerr 6 kind\nerr 6 kind\nerr 6 kind\nerr 6 kind\nerr 6 kind\nerr 6 kind\nerr 6 kind\nerr 6 kind\nerr 6 kind\nerr 6 kind\nerr 6 kind\nerr 6 kind\nerr 6 kind\nerr 6 kind\nerr 6 kind\nerr 6 kind\nerr 6 kind\nerr 6 kind\nerr 6 kind\nok\nerr 6 kind\nerr 6 kind\nerr 6 kind\nerr 6 kind\nerr 6 kind\nerr 6 kind\nerr 6 kind\nerr 6 kind\nerr 6 kind\nerr 6 kind\nok\nerr 6 kind\nerr 6 kind\nerr 6 kind\nerr 6 kind\nerr 6 kind\nerr 6 kind\nerr 6 kind\nerr 6 kind\nerr 6 kind\nerr 6 kind\nok\nerr 6 kind\nerr 6 kind\nerr 6 kind\nerr 6 kind\nerr 6 kind\nerr 6 kind\nerr 6 kind\nerr 6 kind\nerr 6 kind\nerr 6 kind\nok\nerr 6 kind\nerr 6 kind\nerr 6 kind\nerr 6 kind\nerr 6 kind\nok\nerr 4 absent\nerr 3 command\n";
 
 #[test]
 fn kinds_have_boxes_styles_and_shapes_by_the_table(rt: HostRuntime) -> Result<(), Fail> {
+    assert_replies(&rt, rt.alloc(), ROOTS, ROOTS_REPLIES)?;
     for (script, replies) in [
-        (ROOTS, ROOTS_REPLIES),
         (BOXES, BOXES_REPLIES),
         (STYLES, STYLES_REPLIES),
         (ORDER, ORDER_REPLIES),
         (SHAPES, SHAPES_REPLIES),
     ] {
-        assert_replies(&rt, rt.alloc(), script, replies)?;
+        assert_replies_there(&rt, rt.alloc(), script, replies)?;
     }
     Ok(())
 }
