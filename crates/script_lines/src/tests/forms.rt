@@ -128,37 +128,101 @@ fn each_form_has_its_least_and_its_greatest_numbers(rt: HostRuntime) -> Result<(
     Ok(())
 }
 
+// The viewBox of an inner svg with this align and fit, and none where that is no command.
+fn aligned(alloc: Global, align: &str, fit: &str) -> Result<Option<ViewBox>, Fail> {
+    let text = format!(in alloc; "[\"port\",0,0,1,1,2,3,4,5,\"{align}\",\"{fit}\"]")?;
+    match formed(alloc, &text)? {
+        Some(Form::Port(port)) => Ok(port.view),
+        _ => Ok(None),
+    }
+}
+
+fn view_box(align: Align, fit: Fit) -> Option<ViewBox> {
+    Some(ViewBox {
+        x: 2,
+        y: 3,
+        w: 4,
+        h: 5,
+        align,
+        fit,
+    })
+}
+
+const ALIGNS: &[(&str, Align)] = &[
+    ("none", Align::Stretch),
+    (
+        "xMinYMin",
+        Align::Keep {
+            x: Side::Min,
+            y: Side::Min,
+        },
+    ),
+    (
+        "xMidYMin",
+        Align::Keep {
+            x: Side::Mid,
+            y: Side::Min,
+        },
+    ),
+    (
+        "xMaxYMin",
+        Align::Keep {
+            x: Side::Max,
+            y: Side::Min,
+        },
+    ),
+    (
+        "xMinYMid",
+        Align::Keep {
+            x: Side::Min,
+            y: Side::Mid,
+        },
+    ),
+    (
+        "xMidYMid",
+        Align::Keep {
+            x: Side::Mid,
+            y: Side::Mid,
+        },
+    ),
+    (
+        "xMaxYMid",
+        Align::Keep {
+            x: Side::Max,
+            y: Side::Mid,
+        },
+    ),
+    (
+        "xMinYMax",
+        Align::Keep {
+            x: Side::Min,
+            y: Side::Max,
+        },
+    ),
+    (
+        "xMidYMax",
+        Align::Keep {
+            x: Side::Mid,
+            y: Side::Max,
+        },
+    ),
+    (
+        "xMaxYMax",
+        Align::Keep {
+            x: Side::Max,
+            y: Side::Max,
+        },
+    ),
+];
+
 #[test]
 fn each_align_has_its_name_with_either_fit(rt: HostRuntime) -> Result<(), Fail> {
     let alloc = rt.alloc();
-    let keep = |x, y| Align::Keep { x, y };
-    for (name, align) in [
-        ("none", Align::Stretch),
-        ("xMinYMin", keep(Side::Min, Side::Min)),
-        ("xMidYMin", keep(Side::Mid, Side::Min)),
-        ("xMaxYMin", keep(Side::Max, Side::Min)),
-        ("xMinYMid", keep(Side::Min, Side::Mid)),
-        ("xMidYMid", keep(Side::Mid, Side::Mid)),
-        ("xMaxYMid", keep(Side::Max, Side::Mid)),
-        ("xMinYMax", keep(Side::Min, Side::Max)),
-        ("xMidYMax", keep(Side::Mid, Side::Max)),
-        ("xMaxYMax", keep(Side::Max, Side::Max)),
-    ] {
-        for (fit_name, fit) in [("meet", Fit::Meet), ("slice", Fit::Slice)] {
-            let text = format!(in alloc; "[\"port\",0,0,1,1,2,3,4,5,\"{name}\",\"{fit_name}\"]")?;
-            let Some(Form::Port(port)) = formed(alloc, &text)? else {
-                return Ok(assert!(rt; false));
-            };
-            let expected = ViewBox {
-                x: 2,
-                y: 3,
-                w: 4,
-                h: 5,
-                align,
-                fit,
-            };
-            assert_row(&rt, &text, &port.view, &Some(expected));
-        }
+    for (name, align) in ALIGNS {
+        let meet = aligned(alloc, name, "meet")?;
+        assert_row(&rt, name, &meet, &view_box(*align, Fit::Meet));
+        let slice = aligned(alloc, name, "slice")?;
+        assert_row(&rt, name, &slice, &view_box(*align, Fit::Slice));
     }
     Ok(())
 }

@@ -2,12 +2,20 @@
 
 use super::{added, assert_row};
 use computed_style::{Function, Style};
+use std::alloc::Global;
 use std::test::Fail;
 
-// The functions of the transform of such a style and its origin.
-fn transform_and_origin(style: &Style) -> (Option<Function>, usize, Option<(i64, i64)>) {
+// The first function of a transform, how many there are, and its origin.
+type Transformed = (Option<Function>, usize, Option<(i64, i64)>);
+
+fn transform_and_origin(style: &Style) -> Transformed {
     let functions = style.transform.0.as_slice();
     (functions.first().copied(), functions.len(), style.origin)
+}
+
+// What such a style sets, and none where that is no command.
+fn transformed(alloc: Global, style: &str) -> Result<Option<Transformed>, Fail> {
+    Ok(added(alloc, r#""block""#, style)?.map(|node| transform_and_origin(&node.1)))
 }
 
 const FUNCTIONS: &[(&str, Option<Function>)] = &[
@@ -87,7 +95,7 @@ fn each_function_of_a_transform_has_its_least_and_its_greatest_numbers(
     let alloc = rt.alloc();
     for (text, expected) in FUNCTIONS {
         let style = format!(in alloc; "{{\"transform\":[{text}]}}")?;
-        let set = added(alloc, r#""block""#, &style)?.map(|node| transform_and_origin(&node.1));
+        let set = transformed(alloc, &style)?;
         let wanted = expected.map(|function| (Some(function), 1, None));
         assert_row(&rt, text, &set, &wanted);
     }
@@ -97,35 +105,38 @@ fn each_function_of_a_transform_has_its_least_and_its_greatest_numbers(
 // Four functions of a transform.
 const FOUR: &str = r#"["quarter",1],["quarter",1],["quarter",1],["quarter",1]"#;
 
+const TURN: Option<Function> = Some(Function::Quarter { turns: 1 });
+
+const TRANSFORMS: &[(&str, Option<Transformed>)] = &[
+    (r#"{"transform":[]}"#, Some((None, 0, None))),
+    (r#"{"transform":{}}"#, None),
+    (r#"{"transform":[["quarter",1],1]}"#, None),
+    (
+        r#"{"origin":[-67108864,67108864]}"#,
+        Some((None, 0, Some((-67108864, 67108864)))),
+    ),
+    (
+        r#"{"origin":[1,2],"transform":[["quarter",1]]}"#,
+        Some((TURN, 1, Some((1, 2)))),
+    ),
+    (r#"{"origin":[-67108865,0]}"#, None),
+    (r#"{"origin":[0,67108865]}"#, None),
+    (r#"{"origin":[0]}"#, None),
+    (r#"{"origin":[0,0,0]}"#, None),
+];
+
 #[test]
 fn a_transform_has_at_most_sixteen_functions_and_an_origin(rt: HostRuntime) -> Result<(), Fail> {
     let alloc = rt.alloc();
-    let turn = Some(Function::Quarter { turns: 1 });
+    for (text, expected) in TRANSFORMS {
+        assert_row(&rt, text, &transformed(alloc, text)?, expected);
+    }
     let sixteen = format!(in alloc; "{{\"transform\":[{FOUR},{FOUR},{FOUR},{FOUR}]}}")?;
+    let found = transformed(alloc, &sixteen)?;
+    assert_row(&rt, &sixteen, &found, &Some((TURN, 16, None)));
     let more = format!(in alloc;
         "{{\"transform\":[{FOUR},{FOUR},{FOUR},{FOUR},[\"quarter\",1]]}}"
     )?;
-    for (text, expected) in [
-        (sixteen.as_str(), Some((turn, 16, None))),
-        (more.as_str(), None),
-        (r#"{"transform":[]}"#, Some((None, 0, None))),
-        (r#"{"transform":{}}"#, None),
-        (r#"{"transform":[["quarter",1],1]}"#, None),
-        (
-            r#"{"origin":[-67108864,67108864]}"#,
-            Some((None, 0, Some((-67108864, 67108864)))),
-        ),
-        (
-            r#"{"origin":[1,2],"transform":[["quarter",1]]}"#,
-            Some((turn, 1, Some((1, 2)))),
-        ),
-        (r#"{"origin":[-67108865,0]}"#, None),
-        (r#"{"origin":[0,67108865]}"#, None),
-        (r#"{"origin":[0]}"#, None),
-        (r#"{"origin":[0,0,0]}"#, None),
-    ] {
-        let set = added(alloc, r#""block""#, text)?.map(|node| transform_and_origin(&node.1));
-        assert_row(&rt, text, &set, &expected);
-    }
+    assert_row(&rt, &more, &transformed(alloc, &more)?, &None);
     Ok(())
 }
