@@ -1,4 +1,5 @@
 pub mod DrawingLemmas
+pub mod EachLemmas
 pub mod Keeping
 pub mod Meanings
 pub mod PointLemmas

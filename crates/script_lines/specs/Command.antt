@@ -21,6 +21,8 @@ use Rattle.script_lines.specs.declared.command.Command.{Command}
 use Rattle.script_lines.specs.declared.command.Command.TheVariants.{Edit, Hit, Top, Point, Refresh}
 use Rattle.script_lines.specs.declared.command.LineFault.{LineFault}
 use Rattle.script_lines.specs.declared.command.LineFault.TheVariants as fault
+use Rattle.script_lines.specs.declared.rows.Op.{Op}
+use Rattle.script_lines.specs.declared.rows.Op.TheVariants as op
 
 -- an id, which is a whole number from 1 to 4,294,967,295
 abbrev pub id_of : Data → Option ℕ
@@ -226,29 +228,44 @@ pointer_of d = option_map (λ point. Point point.0 point.1) (point_of d)
 abbrev pub refresh_of : Data → Option Command
 refresh_of d = if is_object_of 1 d then Some Refresh else None
 
--- the command by the row of an op
-abbrev pub row_named : List ℕ → Data → Option Command
-row_named op d =
-    if bytes_eq op (codes "add") then add_of d
-    else if bytes_eq op (codes "remove") then remove_of d
-    else if bytes_eq op (codes "move") then move_of d
-    else if bytes_eq op (codes "place") then place_of d
-    else if bytes_eq op (codes "style") then restyle_of d
-    else if bytes_eq op (codes "shape") then reshape_of d
-    else if bytes_eq op (codes "scroll") then scroll_of d
-    else if bytes_eq op (codes "scrollview") then scroll_view_of d
-    else if bytes_eq op (codes "resize") then resize_of d
-    else if bytes_eq op (codes "hit") then hit_of d
-    else if bytes_eq op (codes "top") then top_of d
-    else if bytes_eq op (codes "point") then pointer_of d
-    else if bytes_eq op (codes "refresh") then refresh_of d
+abbrev pub op_named : List ℕ → Option Op
+op_named name =
+    if bytes_eq name (codes "add") then Some op.Add
+    else if bytes_eq name (codes "remove") then Some op.Remove
+    else if bytes_eq name (codes "move") then Some op.Move
+    else if bytes_eq name (codes "place") then Some op.Place
+    else if bytes_eq name (codes "style") then Some op.Style
+    else if bytes_eq name (codes "shape") then Some op.Shape
+    else if bytes_eq name (codes "scroll") then Some op.Scroll
+    else if bytes_eq name (codes "scrollview") then Some op.ScrollView
+    else if bytes_eq name (codes "resize") then Some op.Resize
+    else if bytes_eq name (codes "hit") then Some op.Hit
+    else if bytes_eq name (codes "top") then Some op.Top
+    else if bytes_eq name (codes "point") then Some op.Point
+    else if bytes_eq name (codes "refresh") then Some op.Refresh
     else None
+
+-- the command by the row of an op
+abbrev pub row_of : Op → Data → Option Command
+row_of op.Add d = add_of d
+row_of op.Remove d = remove_of d
+row_of op.Move d = move_of d
+row_of op.Place d = place_of d
+row_of op.Style d = restyle_of d
+row_of op.Shape d = reshape_of d
+row_of op.Scroll d = scroll_of d
+row_of op.ScrollView d = scroll_view_of d
+row_of op.Resize d = resize_of d
+row_of op.Hit d = hit_of d
+row_of op.Top d = top_of d
+row_of op.Point d = pointer_of d
+row_of op.Refresh d = refresh_of d
 
 -- the command that an object spells, by its key `op`
 unfoldable pub command_reading : Data → Option Command
 command_reading d = do
-  op ← get (codes "op") d >>= as_str
-  row_named op d
+  row ← get (codes "op") d >>= as_str >>= op_named
+  row_of row d
 
 -- the JSON reading of a line: there is none for bytes that aren't UTF-8, and none for a nesting above 127
 unfoldable pub json_reading : List ℕ → Option Data

@@ -1,10 +1,11 @@
 // The rows of the ops, from a JSON object to a command.
-ghost use Rattle.std.specs.Prelude.{◌≡◌, IfOk, IfSome};
+ghost use Rattle.std.specs.Prelude.{◌≡◌, IfOk, IfSome, option_map, option_and_then};
+ghost use Rattle.serde_json.specs.Find.{as_str};
 ghost use Rattle.serde_json.specs.View.{view};
 ghost use Rattle.computed_style.specs.Ranges.{IsStyleInRange};
 ghost use Rattle.box_tree.specs.Contents.{IsSpotInRange, IsMaxInRange, IsWithin};
 ghost use Rattle.box_tree.specs.Edited.{IsId};
-ghost use Rattle.script_lines.specs.Command.{new_place, new_node, add_of, remove_of, move_of, layout, place_of, restyle_of, reshape_of, resize_of, point_fields, scroll_of, scroll_view_of, point_of, hit_of, top_of, pointer_of, refresh_of, command_reading, IsAskable};
+ghost use Rattle.script_lines.specs.Command.{new_place, new_node, add_of, remove_of, move_of, layout, place_of, restyle_of, reshape_of, resize_of, point_fields, scroll_of, scroll_view_of, point_of, hit_of, top_of, pointer_of, refresh_of, op_named, row_of, command_reading, IsAskable};
 
 use crate::command::Command;
 use crate::forms::form_from;
@@ -18,6 +19,24 @@ use computed_style::Style;
 use fractions::Spot;
 use serde_json::Value;
 use std::alloc::{AllocError, Global};
+
+// What an op asks for.
+#[derive(Clone, Copy)]
+pub(crate) enum Op {
+    Add,
+    Remove,
+    Move,
+    Place,
+    Style,
+    Shape,
+    Scroll,
+    ScrollView,
+    Resize,
+    Hit,
+    Top,
+    Point,
+    Refresh,
+}
 
 // The parent, the place, the kind and the style of a new node.
 #[tactic(auto, unfolding(crate::specs::Command::new_node))]
@@ -260,26 +279,58 @@ fn refresh_from(value: &Value) -> Option<Command>
     }
 }
 
+// An op by its name.
+fn op_from(found: Option<&Value>) -> Option<Op>
+    ensures { result ≡ option_and_then op_named (option_and_then as_str (option_map (λ v. view v.now) found.entry)) }
+{
+    match found?.as_str()? {
+        "add" => Some(Op::Add),
+        "remove" => Some(Op::Remove),
+        "move" => Some(Op::Move),
+        "place" => Some(Op::Place),
+        "style" => Some(Op::Style),
+        "shape" => Some(Op::Shape),
+        "scroll" => Some(Op::Scroll),
+        "scrollview" => Some(Op::ScrollView),
+        "resize" => Some(Op::Resize),
+        "hit" => Some(Op::Hit),
+        "top" => Some(Op::Top),
+        "point" => Some(Op::Point),
+        "refresh" => Some(Op::Refresh),
+        _ => None,
+    }
+}
+
+// The command by the row of an op.
+fn row_from(alloc: Global, op: Op, value: &Value) -> Result<Option<Command>, AllocError>
+    ensures value { IfOk result (λ command. command ≡ row_of op (view value.now)) }
+    ensures in_range { IfOk result (λ command. IfSome command IsAskable) }
+{
+    match op {
+        Op::Add => add_from(alloc, value),
+        Op::Remove => Ok(remove_from(value)),
+        Op::Move => Ok(move_from(value)),
+        Op::Place => place_from(alloc, value),
+        Op::Style => restyle_from(alloc, value),
+        Op::Shape => reshape_from(alloc, value),
+        Op::Scroll => Ok(scroll_from(value)),
+        Op::ScrollView => Ok(scroll_view_from(value)),
+        Op::Resize => Ok(resize_from(value)),
+        Op::Hit => Ok(hit_from(value)),
+        Op::Top => Ok(top_from(value)),
+        Op::Point => Ok(pointer_from(value)),
+        Op::Refresh => Ok(refresh_from(value)),
+    }
+}
+
 /// The command that a JSON value spells.
 #[tactic(auto, unfolding(crate::specs::Command::command_reading))]
 pub fn command_from(alloc: Global, value: &Value) -> Result<Option<Command>, AllocError>
     ensures value { IfOk result (λ command. command ≡ command_reading (view value.now)) }
     ensures in_range { IfOk result (λ command. IfSome command IsAskable) }
 {
-    match value.get("op").and_then(Value::as_str) {
-        Some("add") => add_from(alloc, value),
-        Some("remove") => Ok(remove_from(value)),
-        Some("move") => Ok(move_from(value)),
-        Some("place") => place_from(alloc, value),
-        Some("style") => restyle_from(alloc, value),
-        Some("shape") => reshape_from(alloc, value),
-        Some("scroll") => Ok(scroll_from(value)),
-        Some("scrollview") => Ok(scroll_view_from(value)),
-        Some("resize") => Ok(resize_from(value)),
-        Some("hit") => Ok(hit_from(value)),
-        Some("top") => Ok(top_from(value)),
-        Some("point") => Ok(pointer_from(value)),
-        Some("refresh") => Ok(refresh_from(value)),
-        _ => Ok(None),
+    match op_from(value.get("op")) {
+        Some(op) => row_from(alloc, op, value),
+        None => Ok(None),
     }
 }
