@@ -14,11 +14,11 @@ use Rattle.box_tree.proofs.PlacedLemmas.{AreAtPlaces, page-at_places}
 use Rattle.box_tree.proofs.ContainingLemmas.{AreAncestors, are_ancestors}
 use Rattle.spaces.specs.Spaces.{is_laid_out, shows, has_space, outer_space, space_factors, space_along, standing_at, space_of, space}
 use Rattle.spaces.specs.Bound.{is_within_bound, partial_products_along, partial_products, is_bounded_at, are_bounded, is_bounded}
-use Rattle.spaces.specs.Checked.{checked_products, checked_along, checked_at, checked_space, is_checked_at, has_space_at, are_checked}
+use Rattle.spaces.specs.Checked.{checked_products, checked_along, checked_at, checked_space, has_space_at, are_checked}
 use Rattle.spaces.proofs.ProductLemmas.{IsChecked, checked-all, checked-some, checked-nothing}
 
 -- both of two tests that hold together
-both : (a b : Bool) → (a && b) ≡ true → (a ≡ true) × (b ≡ true)
+pub both : (a b : Bool) → (a && b) ≡ true → (a ≡ true) × (b ≡ true)
 both true b is = (refl, is)
 both false b is = absurd (false≢true is)
 
@@ -75,7 +75,7 @@ pub shown-where_space : (n : Standing) → has_space n ≡ true → list_all sho
 shown-where_space n has = (both _ _ has).1
 
 -- an ancestor that shows what is in it has a space
-space-where_shown : (n : Label) (above : List Label) → list_all shows (n ∷ above) ≡ true → has_space (record { label = n; above = above }) ≡ true
+pub space-where_shown : (n : Label) (above : List Label) → list_all shows (n ∷ above) ≡ true → has_space (record { label = n; above = above }) ≡ true
 space-where_shown n above shown =
     let here = both _ _ shown in
     ap (λ b. b && list_all shows above) (both _ _ here.0).0 ∙ here.1

@@ -1,11 +1,10 @@
 -- An edit of a node leaves the trees without that node as they are, and so the place of each node that stands outside of it.
-use Rattle.std.proofs.Common.{◌≡◌, ℕ, zero, suc, ◌+◌, ◌<◌, ◌≤◌, ◌==◌, List, [], ◌∷◌, Option, Some, None, IfSome, IsSomeAnd, is_some, Bool, true, false, if◌then◌else◌, refl, sym, ap, ◌∙◌, subst, inl, inr, arith}
+use Rattle.std.proofs.Common.{◌≡◌, ℕ, zero, suc, ◌<◌, ◌≤◌, ◌==◌, List, [], ◌∷◌, Option, Some, None, IfSome, IsSome, IsSomeAnd, is_some, Bool, true, false, if◌then◌else◌, refl, sym, ap, ◌∙◌, subst, inl, inr, arith}
 use Rattle.std.specs.Prelude.{nat_lt}
 use Rattle.std.specs.List.{AllByRecursion}
 use Rattle.std.specs.Option.{option_map, option_map_or, option_and_then}
 use Rattle.std.proofs.lemmas.Bool.{cases_lt, cases_eq, false≢true}
 use Rattle.std.proofs.lemmas.Bool.Decides.{nat_tests}
-use Rattle.affine.specs.declared.map.Parts.{Parts}
 use Rattle.computed_style.specs.declared.inherited.Inherited.{Inherited}
 use Rattle.computed_style.specs.declared.style.Style.{Style}
 use Rattle.box_tree.specs.declared.edit.Edit.{Edit}
@@ -13,10 +12,11 @@ use Rattle.box_tree.specs.declared.edit.Edit.TheVariants.{Add, Remove, Move, Pla
 use Rattle.box_tree.specs.declared.kind.Kind.{Kind}
 use Rattle.box_tree.specs.declared.piece.Piece.{Piece}
 use Rattle.box_tree.specs.declared.viewport.Viewport.{Viewport}
-use Rattle.box_tree.specs.Forest.{Label, Forest, End, Grow, node_count, occurrences, Placed, placed_in}
+use Rattle.box_tree.specs.Forest.{Label, Forest, End, Grow, ids_in, node_count, occurrences, Placed, placed_in}
 use Rattle.box_tree.specs.Contents.{Contents, placed_of, tree_of, has_id, new_label, IsValid}
 use Rattle.box_tree.specs.Containing.{Standing}
-use Rattle.box_tree.specs.Edited.{put_in, put_below, planted, taken_out, moved, relabelled, laid_out, restyled, reshaped, scrolled_node, edited}
+use Rattle.box_tree.specs.Edited.{put_in, put_below, planted, taken_out, relabelled, laid_out, restyled, reshaped, scrolled_node, edited}
+use Rattle.box_tree.specs.Planned.{is_among}
 use Rattle.box_tree.proofs.AddLemmas.{MayAdd, may_add, once_there}
 use Rattle.box_tree.proofs.ForestLemmas.{single, placed_in-absent, placed_in-present, occurrences-put_below}
 use Rattle.box_tree.proofs.MoveLemmas.{may_move}
@@ -27,7 +27,9 @@ use Rattle.box_tree.proofs.PutLemmas.{given-absent}
 use Rattle.box_tree.proofs.SubtreeLemmas.{Head, Deeper, Beside, found_in, is_among-ids_in}
 use Rattle.box_tree.proofs.TakenLemmas.{taken_out-head, taken_out-other, occurrences-taken_out, place_without, placed_in-taken_out, occurrences-parted}
 use Rattle.spaces.specs.Frame.{edited_node, IsFaultless, StandsApart, IsOutside}
-use Rattle.spaces.specs.Spaces.{standing_at, space_of, space}
+use Rattle.spaces.specs.declared.table.entry.Entry.{Entry}
+use Rattle.spaces.specs.Spaces.{is_laid_out, standing_at, space_of, space}
+use Rattle.spaces.specs.Table.{entry_at, entry_placed, entry_of, IsTableOf, IsTableOutside}
 use Rattle.spaces.specs.Values.{values_below, values}
 
 -- trees at whose head a node goes or stays, each part equal
@@ -257,6 +259,33 @@ module _ (page after : Contents) (changed : ℕ) (keeps : KeepsRest page after c
         apart = is_among-ids_in (tree_of after changed) id ∙ ap (nat_lt 0) none;
       }
 
+  -- the entry of a node of the rest
+  entry-rest : (k : ℕ) → 0 < occurrences rest k → entry_of after k ≡ entry_of page k
+  entry-rest k some =
+      by_standing after
+      ∙ ap (λ (v : Viewport). option_and_then (entry_in v) (standing_of after k)) keeps.viewport
+      ∙ ap (option_and_then (entry_in page.viewport)) (standing-rest k some)
+      ∙ sym (by_standing page)
+    where
+      entry_in : Viewport → Standing → Option Entry
+      entry_in v n = if is_laid_out n.label.kind then Some (entry_at v n) else None
+
+      by_standing : (p : Contents) → entry_of p k ≡ option_and_then (entry_in p.viewport) (standing_of p k)
+      by_standing p = by_place (placed_of p k)
+        where
+          by_place : (o : Option Placed) → option_and_then (entry_placed p.viewport) o ≡ option_and_then (entry_in p.viewport) (option_map standing_at o)
+          by_place None = refl
+          by_place (Some q) = refl
+
+-- taking an edit back keeps the same rest
+flipped : (page after : Contents) (changed : ℕ) → KeepsRest page after changed → KeepsRest after page changed
+flipped page after changed keeps = record {
+  rest = sym keeps.rest;
+  viewport = sym keeps.viewport;
+  distinct = keeps.distinct_after;
+  distinct_after = keeps.distinct;
+}
+
 -- a node outside of the edited one stands in the trees without that one, whose nodes keep their ancestors, spaces and values;
 -- so do all its ancestors
 pub record IsInRest (page after : Contents) (id : ℕ) : Type 0 where
@@ -312,3 +341,55 @@ values-viewed page (Reshape node form) id none = absurd cc
 values-viewed page (Scroll node x y) id none = absurd cc
 values-viewed page (Resize w h max) id none = refl
 values-viewed page (ScrollView x y) id none = refl
+
+module _ (page : Contents) (edit : Edit) (faultless : IsFaultless page edit) where
+  -- a node that stands apart from the edited one after the edit did so before it
+  pub outside-before : (id : ℕ) → IsSomeAnd (edited_node page edit) (λ changed. StandsApart (edited page edit) changed id) → IsOutside page edit id
+  outside-before id apart = by_node (edited_node page edit) (keeps-rest page edit faultless) apart
+    where
+      by_node : (o : Option ℕ) → IfSome o (KeepsRest page (edited page edit)) → IsSomeAnd o (λ changed. StandsApart (edited page edit) changed id) → IsSomeAnd o (λ changed. StandsApart page changed id × StandsApart (edited page edit) changed id)
+      by_node None keeps stands = stands
+      by_node (Some changed) keeps stands = (apart_after (edited page edit) page changed (flipped page (edited page edit) changed keeps) id stands, stands)
+
+  -- and keeps its entry
+  pub entry-outside : (id : ℕ) → IsOutside page edit id → entry_of (edited page edit) id ≡ entry_of page id
+  entry-outside id outside = by_node (edited_node page edit) (keeps-rest page edit faultless) outside
+    where
+      by_node : (o : Option ℕ) → IfSome o (KeepsRest page (edited page edit)) → IsSomeAnd o (λ changed. StandsApart page changed id × StandsApart (edited page edit) changed id) → entry_of (edited page edit) id ≡ entry_of page id
+      by_node None keeps stands = absurd stands
+      by_node (Some changed) keeps stands = entry-rest page (edited page edit) changed keeps id (in_rest page (edited page edit) changed keeps id stands.0)
+
+  -- so the table of the page before has the entries of the nodes outside of the edited one
+  pub table-outside : (table : List (Option Entry)) (changed : ℕ) → edited_node page edit ≡ Some changed → IsTableOf table page → IsTableOutside table (edited page edit) changed
+  table-outside table changed changed_is known x outside some = elim (cases_eq changed 0) [
+    | inl whole ↦
+        let same : (changed == 0) ≡ true = grind (arith, nat_tests) in
+        let all : is_among (ids_in after.tree) x ≡ false = sym (ap (λ (b : Bool). is_among (ids_in (if b then after.tree else tree_of after changed)) x) same) ∙ outside in
+        let none : nat_lt 0 (occurrences after.tree x) ≡ false = sym (is_among-ids_in after.tree x) ∙ all in
+        absurd (false≢true (ap is_some (sym (placed_in-absent after.tree [] x (grind (arith, nat_tests)))) ∙ there))
+    | inr named ↦
+        let other : (changed == 0) ≡ false = grind (arith, nat_tests) in
+        let apart : is_among (ids_in (tree_of after changed)) x ≡ false = sym (ap (λ (b : Bool). is_among (ids_in (if b then after.tree else tree_of after changed)) x) other) ∙ outside in
+        let stands : StandsApart after changed x = record { there = there; apart = apart } in
+        known x ∙ sym (entry-outside x (outside-before x (subst (λ (o : Option ℕ). IsSomeAnd o (λ node. StandsApart after node x)) (sym changed_is) stands)))
+  ]
+    where
+      after : Contents
+      after = edited page edit
+
+      there : has_id after x ≡ true
+      there = by_place (placed_of after x) some
+        where
+          by_place : (o : Option Placed) → IsSome (option_and_then (entry_placed after.viewport) o) → is_some o ≡ true
+          by_place None some' = absurd cc
+          by_place (Some p) some' = refl
+
+-- no node stands outside of the whole page
+pub table-whole : (table : List (Option Entry)) (page : Contents) → IsTableOutside table page 0
+table-whole table page x outside some =
+    let none : nat_lt 0 (occurrences page.tree x) ≡ false = sym (is_among-ids_in page.tree x) ∙ outside in
+    absurd (nowhere (placed_of page x) (placed_in-absent page.tree [] x (grind (arith, nat_tests))) some)
+  where
+    nowhere : (o : Option Placed) → o ≡ None → IsSome (option_and_then (entry_placed page.viewport) o) → ⊥
+    nowhere None is some' = cc
+    nowhere (Some p) is some' = cc

@@ -10,3 +10,7 @@ pub mod ViewLemmas
 pub mod ShownLemmas
 pub mod SuitedLemmas
 pub mod FrameLemmas
+pub mod AroundLemmas
+pub mod WrittenLemmas
+pub mod TableLemmas
+pub mod OutsideLemmas

@@ -60,7 +60,7 @@ fn inside<L: Ledger>(page: &Page, id: u32, space: Option<Map>, steps: &mut Steps
 
 // The factors of a containing block after a map: its padding corner, where it has a box, its scroll, where it clips, and its
 // viewBox.
-fn inner(space: Option<Map>, parent: Option<&Node>, node: &Node) -> Option<Map>
+pub(crate) fn inner(space: Option<Map>, parent: Option<&Node>, node: &Node) -> Option<Map>
     requires { HasNumbersInRange (label_of node.now) }
     ensures { result ≡ checked_products space (inner_factors (option_map label_of (option_copied parent.entry)) (label_of node.now)) }
 {
@@ -120,7 +120,7 @@ fn own_space<L: Ledger>(
 }
 
 // The node of an id, where it is in the page.
-fn find<'a, L: Ledger>(page: &'a Page, id: u32, steps: &mut Steps<L>) -> Option<&'a Node>
+pub(crate) fn find<'a, L: Ledger>(page: &'a Page, id: u32, steps: &mut Steps<L>) -> Option<&'a Node>
     ensures { option_copied result ≡ node_of page.now.contents id }
 {
     if page.has(id) {
@@ -131,7 +131,7 @@ fn find<'a, L: Ledger>(page: &'a Page, id: u32, steps: &mut Steps<L>) -> Option<
 }
 
 // The factors of a node itself after a map.
-fn own(around: Option<Map>, parent: Option<&Node>, node: &Node) -> Option<Map>
+pub(crate) fn own(around: Option<Map>, parent: Option<&Node>, node: &Node) -> Option<Map>
     requires { HasNumbersInRange (label_of node.now) }
     ensures { result ≡ checked_products around (own_factors (option_map label_of (option_copied parent.entry)) (label_of node.now)) }
 {

@@ -28,7 +28,7 @@ pub fn plain_values<L: Ledger>(page: &Page, id: u32, steps: &mut Steps<L>) -> In
 }
 
 // The values of an element and its ancestors, the initial ones above the root.
-fn values_from<L: Ledger>(page: &Page, id: u32, steps: &mut Steps<L>) -> Inherited
+pub(crate) fn values_from<L: Ledger>(page: &Page, id: u32, steps: &mut Steps<L>) -> Inherited
     requires { IsValid page.now.contents }
     ensures value { result ≡ values_along (ancestors_below page.now.contents id) }
     ensures width { IsSide 26 result.stroke_width }
@@ -41,7 +41,7 @@ fn values_from<L: Ledger>(page: &Page, id: u32, steps: &mut Steps<L>) -> Inherit
     compute(&above, &node.style)
 }
 
-fn is_text(kind: Kind) -> bool
+pub(crate) fn is_text(kind: Kind) -> bool
     ensures { result ≡ names_text kind }
 {
     kind == Kind::Text
