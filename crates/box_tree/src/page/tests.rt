@@ -8,11 +8,12 @@ use crate::form::Form;
 use crate::kind::Kind;
 use crate::piece::{Piece, PieceList};
 use computed_style::Style;
-use fractions::{Blank, Brand};
+use fractions::{Blank, Brand, Spot};
 use std::process::Abort;
 use std::test::Fail;
 
 mod counts;
+mod items;
 mod reverts;
 
 // So many boxes of 100 by 100 units.
@@ -53,6 +54,25 @@ fn answer(rt: &impl Abort, page: &mut Page, edit: &Edit) -> Result<u32, Option<u
             }
         }
         Err(fault) => Err(fault.number()),
+    }
+}
+
+// A place of a node with so many boxes.
+fn place(alloc: Global, id: u32, boxes: usize) -> Result<Edit, Fail> {
+    Ok(Edit::Place {
+        id,
+        anchor: Spot { x: 7, y: -7 },
+        boxes: boxes_of(alloc, boxes)?,
+        max: Spot { x: 5, y: 6 },
+    })
+}
+
+// Where a page takes an edit, carries it out and takes it back.
+fn revert(rt: &impl Abort, page: &mut Page, edit: &Edit) {
+    assert!(rt; edit.in_range());
+    if let Ok(prepared) = page.check(edit) {
+        let undo = page.commit(prepared);
+        page.revert(undo);
     }
 }
 

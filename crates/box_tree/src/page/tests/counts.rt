@@ -43,12 +43,7 @@ fn edit_of(alloc: Global, step: Step) -> Result<Edit, Fail> {
         Step::Inline(boxes) => add(alloc, 1, 0, Kind::Inline, boxes),
         Step::Svg => add(alloc, 1, 0, Kind::Svg, 1),
         Step::Shape => add(alloc, 2, 0, Kind::Shape, 0),
-        Step::Place(id, boxes) => Ok(Edit::Place {
-            id,
-            anchor: ORIGIN,
-            boxes: boxes_of(alloc, boxes)?,
-            max: ORIGIN,
-        }),
+        Step::Place(id, boxes) => place(alloc, id, boxes),
         Step::Outline(id, boxes) => Ok(Edit::Reshape {
             id,
             form: outline_of(alloc, boxes)?,

@@ -1,6 +1,5 @@
 // Edits that are taken back, and then carried out.
 use super::*;
-use fractions::Spot;
 
 // The name of the map of a node, where it has one.
 fn map_of(node: &Node) -> Option<u32> {
@@ -31,24 +30,6 @@ fn has_same(a: &Page, b: &Page, id: u32) -> bool {
         (None, None) => true,
         _ => false,
     }
-}
-
-// Where a page takes an edit, carries it out and takes it back.
-fn revert(rt: &impl Abort, page: &mut Page, edit: &Edit) {
-    assert!(rt; edit.in_range());
-    if let Ok(prepared) = page.check(edit) {
-        let undo = page.commit(prepared);
-        page.revert(undo);
-    }
-}
-
-fn place(alloc: Global, id: u32, boxes: usize) -> Result<Edit, Fail> {
-    Ok(Edit::Place {
-        id,
-        anchor: Spot { x: 7, y: -7 },
-        boxes: boxes_of(alloc, boxes)?,
-        max: Spot { x: 5, y: 6 },
-    })
 }
 
 // Edits that change a node or the viewport: each kind of them.
