@@ -41,7 +41,7 @@ module _ (weight : Label → ℕ) (page : Contents) where
   abbrev pub weight_of : ℕ → ℕ
   weight_of id = option_map_or (λ (p : Placed). weight p.label) (placed_of page id) 0
 
-  sum-ids_in : (f : Forest) (above : List Label) → AreAtPlaces page above f → sum_by weight_of (ids_in f) ≡ total_over weight f
+  pub sum-ids_in : (f : Forest) (above : List Label) → AreAtPlaces page above f → sum_by weight_of (ids_in f) ≡ total_over weight f
   sum-ids_in End above known = refl
   sum-ids_in (Grow n below others) above known =
       let here : weight_of n.id ≡ weight n = ap (λ o. option_map_or (λ (p : Placed). weight p.label) o 0) known.0 in

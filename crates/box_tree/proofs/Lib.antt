@@ -25,3 +25,10 @@ pub mod ScrollLemmas
 pub mod ChangeLemmas
 pub mod RevertLemmas
 pub mod ExchangeLemmas
+pub mod NumberLemmas
+pub mod ItemLemmas
+pub mod FollowLemmas
+pub mod SeenLemmas
+pub mod NumberedPages
+pub mod ItemsStates
+pub mod ItemCount

@@ -20,10 +20,10 @@ use Rattle.box_tree.specs.declared.plan.Taken.TheVariants.{Added}
 use Rattle.box_tree.specs.Contents.{Contents, node_at, node_of, placed_of, origin, new_label, has_id, parent_id, IsValid}
 use Rattle.box_tree.specs.Counted.{IsCounted}
 use Rattle.box_tree.specs.Edited.{edited, answer_of, planted, put_below, ancestors_below, child_count}
-use Rattle.box_tree.specs.Forest.{Label, Forest, End, Grow, roots_of, node_count, Placed}
+use Rattle.box_tree.specs.Forest.{Label, Forest, End, roots_of, node_count, Placed}
 use Rattle.box_tree.specs.Kept.{node_with, page_of, IsKept}
 use Rattle.box_tree.specs.Nodes.{NodesState, changed_at, ChangesAt}
-use Rattle.box_tree.specs.PageState.{PageState}
+use Rattle.box_tree.specs.TreeState.{TreeState}
 use Rattle.box_tree.specs.Planned.{node_added, with_child_at, MayInsertAt, IsPlanned}
 use Rattle.box_tree.specs.Taken.{without_child_at, IsTaken, answer_by}
 use Rattle.box_tree.specs.Forms.{form_vertices}
@@ -38,19 +38,19 @@ use Rattle.box_tree.proofs.PutLemmas.{given-absent}
 use Rattle.box_tree.proofs.TotalLemmas.{same_sums, total-none, total-put_below}
 
 -- the page that nodes with a frame are
-abbrev pub state_of : NodesState → Frame → PageState
+abbrev pub state_of : NodesState → Frame → TreeState
 state_of nodes frame = record { contents = page_of (node_with nodes.nodes) frame.root frame.viewport frame.next; room = nodes.room; ids = nodes.ids }
 
 -- the nodes and the frame mean the edited page, and what was taken leads back
-pub record Carries (new : NodesState) (frame : Frame) (taken : Taken) (state : PageState) (edit : Edit) : Type 0 where
+pub record Carries (new : NodesState) (frame : Frame) (taken : Taken) (state : TreeState) (edit : Edit) : Type 0 where
   pub means : Means new frame (edited state.contents edit)
   pub taken_is : IsTaken taken state.contents (edited state.contents edit) new.room
   pub answer_is : answer_by taken ≡ answer_of state.contents edit
 
 -- the same of what was taken, where the nodes and the frame are those of a page
-pub taken_as : (new : NodesState) (frame : Frame) (taken : Taken) (state page : PageState) (edit : Edit) → state ≡ page → Carries new frame taken state edit → IsTaken taken page.contents (page_of (node_with new.nodes) frame.root frame.viewport frame.next) new.room
+pub taken_as : (new : NodesState) (frame : Frame) (taken : Taken) (state page : TreeState) (edit : Edit) → state ≡ page → Carries new frame taken state edit → IsTaken taken page.contents (page_of (node_with new.nodes) frame.root frame.viewport frame.next) new.room
 taken_as new frame taken state page edit is carried =
-    subst (λ (s : PageState). IsTaken taken s.contents (page_of (node_with new.nodes) frame.root frame.viewport frame.next) new.room) is
+    subst (λ (s : TreeState). IsTaken taken s.contents (page_of (node_with new.nodes) frame.root frame.viewport frame.next) new.room) is
     (subst (λ (after : Contents). IsTaken taken state.contents after new.room) (sym carried.means.is) carried.taken_is)
 
 -- what an exchange leaves of the numbers of a page
@@ -62,7 +62,7 @@ pub record Leaves (new : NodesState) (frame : Frame) (after : Contents) : Type 0
   pub fits : length new.nodes ≤ new.room
   pub placed : (id : ℕ) → 0 < id → id < after.next → id < new.ids
 
-pub carries : (new : NodesState) (frame : Frame) (taken : Taken) (state : PageState) (edit : Edit) → IsKept (node_with new.nodes) frame.root (edited state.contents edit) → Leaves new frame (edited state.contents edit) → IsTaken taken state.contents (edited state.contents edit) new.room → answer_by taken ≡ answer_of state.contents edit → Carries new frame taken state edit
+pub carries : (new : NodesState) (frame : Frame) (taken : Taken) (state : TreeState) (edit : Edit) → IsKept (node_with new.nodes) frame.root (edited state.contents edit) → Leaves new frame (edited state.contents edit) → IsTaken taken state.contents (edited state.contents edit) new.room → answer_by taken ≡ answer_of state.contents edit → Carries new frame taken state edit
 carries new frame taken state edit kept leaves taken_is answer_is = record {
   means = means new frame (edited state.contents edit) (record { kept = kept; count = leaves.count; sums_are = leaves.sums; fits = leaves.fits; placed = leaves.placed }) leaves.viewport leaves.next;
   taken_is = taken_is;
@@ -123,7 +123,7 @@ pub record AddsBoxes (page after : Contents) (count : ℕ) : Type 0 where
   pub most : count + box_count page.tree ≤ 262144
   pub vertices : vertex_count page.tree ≡ vertex_count after.tree
 
-pub boxes_added : (state : PageState) (edit : Edit) (node : Node) (place : ℕ) (spare : Option (Vec ℕ Global)) → IsValid state.contents → IsPlanned (AddNode node place spare) edit state → AddsBoxes state.contents (edited state.contents edit) (length node.boxes)
+pub boxes_added : (state : TreeState) (edit : Edit) (node : Node) (place : ℕ) (spare : Option (Vec ℕ Global)) → IsValid state.contents → IsPlanned (AddNode node place spare) edit state → AddsBoxes state.contents (edited state.contents edit) (length node.boxes)
 boxes_added state (Add parent at kind boxes style) node place spare valid planned =
     let page = state.contents in
     let may = may_add page parent at kind style boxes planned.faultless in

@@ -5,7 +5,13 @@ pub mod Containing
 pub mod Covers
 pub mod Edited
 pub mod Kept
+pub mod TreeState
 pub mod PageState
+pub mod Items
+pub mod Numbers
+pub mod Sound
+pub mod Renumbered
+pub mod Touched
 pub mod ForestCode
 pub mod Planned
 pub mod Forms

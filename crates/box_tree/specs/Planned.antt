@@ -21,7 +21,9 @@ use Rattle.box_tree.specs.Edited.{IsInRange, first_fault, ancestors_below, laid_
 use Rattle.box_tree.specs.Kept.{with_children, with_label}
 use Rattle.box_tree.specs.Nodes.{changed_at}
 use Rattle.box_tree.specs.Room.{IsSpareFor}
+use Rattle.box_tree.specs.Numbers.{ItemsState}
 use Rattle.box_tree.specs.PageState.{PageState}
+use Rattle.box_tree.specs.TreeState.{TreeState}
 
 -- the node that an add makes
 abbrev pub node_added : Contents → ℕ → Kind → Style → List Piece → Node
@@ -42,7 +44,7 @@ pub record MayInsertAt (parent : Option Node) (place : ℕ) (spare : Option (Vec
   pub spare_fits : HasSpareFor parent spare
 
 -- a node, its place among the children of its parent, and spare room for them, as an add needs them
-pub record IsAddPlan (page : PageState) (parent at : ℕ) (kind : Kind) (style : Style) (boxes : List Piece) (node : Node) (place : ℕ) (spare : Option (Vec ℕ Global)) : Type 0 where
+pub record IsAddPlan (page : TreeState) (parent at : ℕ) (kind : Kind) (style : Style) (boxes : List Piece) (node : Node) (place : ℕ) (spare : Option (Vec ℕ Global)) : Type 0 where
   pub node_is : node ≡ node_added page.contents parent kind style boxes
   pub place_is : place ≡ at
   pub may_insert : MayInsertAt (node_of page.contents parent) place spare
@@ -137,7 +139,7 @@ pub record IsResizePlan (w h : ℤ) (max : Spot) (w' h' : ℤ) (max' : Spot) : T
   pub max_is : max' ≡ max
 
 -- the plan is one for the edit on the page
-abbrev pub IsPlanFor : Plan → Edit → PageState → Type 0
+abbrev pub IsPlanFor : Plan → Edit → TreeState → Type 0
 IsPlanFor (AddNode node place spare) (Add parent at kind boxes style) page = IsAddPlan page parent at kind style boxes node place spare
 IsPlanFor (RemoveNodes parent siblings ids gone) (Remove id) page = IsRemovePlan page.contents id parent siblings ids gone
 IsPlanFor (MoveNodes place siblings children ids) (Move id parent at) page = IsMovePlan page.contents id parent at place siblings children ids
@@ -150,7 +152,7 @@ IsPlanFor (ScrollViewport to) (ScrollView x y) page = IsScrollViewPlan x y to
 IsPlanFor plan edit page = ⊥
 
 -- an edit that may be carried out, and its plan
-pub record IsPlanned (plan : Plan) (edit : Edit) (page : PageState) : Type 0 where
+pub record IsPlanned (plan : Plan) (edit : Edit) (page : TreeState) : Type 0 where
   pub in_range : IsInRange edit
   pub faultless : first_fault page.contents edit ≡ None
   pub plan_is : IsPlanFor plan edit page
@@ -160,9 +162,12 @@ pub record PreparedState : Type 0 where
   pub edit : Edit
   pub page : PageState
 
--- an edit that was carried out as contracts see it: the contents before and after it, and the room that it left
+-- an edit that was carried out as contracts see it: the contents and the numbers of the items before and after it, and the
+-- room that it left
 pub record UndoState : Type 0 where
   pub edit : Edit
   pub before : Contents
   pub after : Contents
+  pub items_before : ItemsState
+  pub items_after : ItemsState
   pub room : ℕ

@@ -13,6 +13,7 @@ mod covers;
 mod edit;
 mod form;
 mod item;
+mod items;
 mod kind;
 mod node;
 mod nodes;
@@ -22,6 +23,7 @@ mod plan;
 mod scroll;
 mod suits;
 mod sums;
+mod tree;
 mod used;
 mod viewport;
 

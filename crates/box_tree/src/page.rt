@@ -1,38 +1,32 @@
-ghost use Rattle.std.specs.Prelude.{◌≡◌, ◌≢◌, ◌+◌, ◌≤◌, ◌↔◌, ◌^◌, pos, ◌≤ℤ◌, Some, None, IsTrue, IsNone, IfOk, IfErr, OnOk};
+ghost use Rattle.std.specs.Prelude.{◌≡◌, ◌≢◌, ◌+◌, ◌≤◌, ◌<◌, ◌↔◌, ◌^◌, ℕ, pos, ◌≤ℤ◌, Some, None, IsTrue, IsNone, IfOk, IfErr, OnOk};
 ghost use Rattle.std.specs.Option.{option_to_list, option_copied};
+ghost use Rattle.box_tree.specs.declared.item.Item.{Item};
 ghost use Rattle.box_tree.specs.Contents.{empty_page, has_id, node_of, IsValid};
 ghost use Rattle.box_tree.specs.Edited.{IsInRange, first_fault, edited, answer_of};
 ghost use Rattle.box_tree.specs.Forest.{roots_of, node_count};
+ghost use Rattle.box_tree.specs.Items.{item_count};
+ghost use Rattle.box_tree.specs.Numbers.{numbers_of, Names, IsNumber, KeepsNumbers, GivesFreshNumbers, HasSameItems, IsNumberedPage};
 
-use self::reverts::{answer_by, put_back};
+use self::numbers::renumber;
 use crate::edit::{Done, Edit, EditFault};
-use crate::node::{Node, ORIGIN};
-use crate::nodes::Nodes;
-use crate::plan::{Frame, Plan, Prepared, Undo};
-use crate::sums::NOTHING;
+use crate::item::Item;
+use crate::items::Items;
+use crate::node::Node;
+use crate::plan::{Prepared, Undo};
+use crate::tree::{Tree, answer_by};
 use crate::viewport::Viewport;
 use fractions::{Ledger, Steps};
 use std::alloc::Global;
 use std::marker::Model;
 use std::snapshot::Snapshot;
 
-mod adds;
-mod boxes;
-mod changes;
-mod moves;
-mod places;
-mod removes;
-mod reshapes;
-mod resizes;
-mod restyles;
-mod reverts;
-mod scrolls;
+mod numbers;
 
-/// A page: a tree of nodes or none, seen through a viewport.
+/// A page: a tree of nodes or none, seen through a viewport, and the numbers of what is painted of them.
 #[derive(Drop)]
 pub struct Page {
-    nodes: Nodes,
-    frame: Frame,
+    tree: Tree,
+    items: Items,
 }
 
 impl Model for Page {
@@ -45,12 +39,12 @@ impl Model for Page {
 
     ghost coded = { let label : Coded Label = Prim.hlevel codes in Prim.hlevel (codes, forest_code label) };
 
-    ghost use Rattle.box_tree.specs.Kept.{node_with, page_of};
-    ghost use Rattle.box_tree.specs.Counted.{IsCounted};
+    ghost use Rattle.box_tree.specs.Items.{node_items};
+    ghost use Rattle.box_tree.specs.Numbers.{IsNumbered};
 
-    ghost view = { λ p. record { contents = page_of (node_with p.nodes.nodes) p.frame.root p.frame.viewport p.frame.next; room = p.nodes.room; ids = p.nodes.ids } };
+    ghost view = { λ p. record { contents = p.tree.contents; room = p.tree.room; ids = p.tree.ids; items = p.items.items; item_room = p.items.room } };
 
-    ghost invariant = { λ p. IsCounted p.nodes p.frame.root p.frame.sums (page_of (node_with p.nodes.nodes) p.frame.root p.frame.viewport p.frame.next) };
+    ghost invariant = { λ p. IsNumbered p.items.items (node_items p.tree.contents) };
 }
 
 impl Page {
@@ -61,18 +55,8 @@ impl Page {
         ensures { result.contents ≡ empty_page w h }
     {
         Page {
-            nodes: Nodes::new(alloc),
-            frame: Frame {
-                sums: NOTHING,
-                root: None,
-                viewport: Viewport {
-                    w,
-                    h,
-                    scroll: ORIGIN,
-                    max: ORIGIN,
-                },
-                next: 1,
-            },
+            tree: Tree::new(alloc, w, h),
+            items: Items::new(alloc),
         }
     }
 
@@ -88,21 +72,30 @@ impl Page {
         ensures root { option_to_list result ≡ roots_of self.now.contents.tree }
         ensures none { IsNone result ↔ (node_count self.now.contents.tree ≡ 0) }
     {
-        self.frame.root
+        self.tree.root()
     }
 
     /// The viewport, in units.
     pub fn viewport(&self) -> Viewport
         ensures { result ≡ self.now.contents.viewport }
     {
-        self.frame.viewport
+        self.tree.frame().viewport
     }
 
     /// How many nodes there are, at most 65,536.
     pub fn count(&self) -> u32
         ensures { result ≡ node_count self.now.contents.tree }
     {
-        self.nodes.len() as u32
+        self.tree.count()
+    }
+
+    /// How many items there are, at most 327,680: each box, the picture of each image with a box, and the outline of each shape.
+    pub fn item_count(&self) -> u32
+        ensures { result ≡ item_count self.now.contents.tree }
+    {
+        self.tree.validity();
+        self.items.soundness();
+        self.items.count() as u32
     }
 
     /// The node of an id, in one step.
@@ -119,13 +112,35 @@ impl Page {
     pub(crate) fn find(&self, id: u32) -> Option<&Node>
         ensures { option_copied result ≡ node_of self.now.contents id }
     {
-        self.nodes.find(id)
+        self.tree.find(id)
     }
 
-    /// Tests an edit, and takes all memory that carrying it out needs. The contents stay; the room never shrinks.
+    /// The item of a number, in one step.
+    pub fn item<L: Ledger>(&self, number: u32, steps: &mut Steps<L>) -> Item
+        requires { IsNumber self.now.items number }
+        ensures item { Names self.now.items number result }
+        ensures step { steps.new ≡ steps.old + 1 }
+    {
+        steps.tick();
+        self.items.item(number)
+    }
+
+    /// The numbers of the items of a node, each below 655,360, in one step: those of its boxes in order, and then that of its
+    /// picture or its outline. None for an id that isn't in the page.
+    pub fn items_of<L: Ledger>(&self, id: u32, steps: &mut Steps<L>) -> &[u32]
+        ensures numbers { result.now ≡ numbers_of self.now.items id }
+        ensures step { steps.new ≡ steps.old + 1 }
+    {
+        steps.tick();
+        self.items.of(id)
+    }
+
+    /// Tests an edit, and takes all memory that carrying it out needs. The contents and the
+    /// numbers of the items stay; the room never shrinks.
     pub fn check(&mut self, edit: &Edit) -> Result<Prepared, EditFault>
         requires { IsInRange edit.now }
         ensures contents { self.new.contents ≡ self.old.contents }
+        ensures items { HasSameItems self.old.items self.new.items }
         ensures room { self.old.room ≤ self.new.room }
         ensures faultless { OnOk result (first_fault self.old.contents edit.now ≡ None) }
         ensures prepared { IfOk result (λ p. (p.edit ≡ edit.now) × (p.page ≡ self.new)) }
@@ -133,95 +148,78 @@ impl Page {
         // Want of memory may come in place of any other answer.
         ensures first_fault { IfErr result (λ why. why ≢ EditFault.OutOfMemory → first_fault self.old.contents edit.now ≡ Some why) }
     {
-        let plan = match edit {
-            Edit::Add {
-                parent,
-                at,
-                kind,
-                boxes,
-                style,
-            } => self.plan_add(*parent, *at, *kind, boxes, style)?,
-            Edit::Remove { id } => self.plan_remove(*id)?,
-            Edit::Move { id, parent, at } => self.plan_move(*id, *parent, *at)?,
-            Edit::Place {
-                id,
-                anchor,
-                boxes,
-                max,
-            } => self.plan_place(*id, *anchor, boxes, *max)?,
-            Edit::Restyle { id, style } => self.plan_restyle(*id, style)?,
-            Edit::Reshape { id, form } => self.plan_reshape(*id, form)?,
-            Edit::Scroll { id, x, y } => self.plan_scroll(*id, *x, *y)?,
-            Edit::Resize { w, h, max } => self.plan_resize(*w, *h, *max),
-            Edit::ScrollView { x, y } => self.plan_scroll_view(*x, *y),
-        };
+        let plan = self.tree.plan(edit)?;
+        let spare = self.spare_for(&plan)?;
         Ok(Prepared {
             plan,
+            spare,
             edit: Snapshot::of(edit),
             page: Snapshot::of(self),
         })
     }
 
-    /// Carries out an edit that was prepared from this page as it stands. The room never shrinks.
+    /// Carries out an edit that was prepared from this page as it stands. The room never shrinks. An item that stays keeps
+    /// its number, and a new one gets a number that no item had before.
     pub fn commit(&mut self, prepared: Prepared) -> Undo
         requires { prepared.page ≡ self.old }
         ensures contents { self.new.contents ≡ edited self.old.contents prepared.edit }
         ensures edit { result.edit ≡ prepared.edit }
         ensures before { result.before ≡ self.old.contents }
         ensures after { result.after ≡ self.new.contents }
+        ensures items_before { result.items_before ≡ self.old.items }
+        ensures items_after { result.items_after ≡ self.new.items }
         ensures room { result.room ≡ self.new.room }
         ensures room_kept { self.old.room ≤ self.new.room }
+        ensures numbers_kept { KeepsNumbers self.old.items self.new.items self.new.contents }
+        ensures numbers_fresh { GivesFreshNumbers self.old.items self.new.items }
     {
-        let before = Snapshot::of(self);
-        let frame = self.frame;
         let Prepared {
             plan,
+            spare,
             edit,
             page: _,
         } = prepared;
-        let taken = match plan {
-            Plan::AddNode { node, place, spare } => self.add(node, place, spare, &edit),
-            Plan::RemoveNodes {
-                parent,
-                siblings,
-                ids,
-                gone,
-            } => self.remove(parent, siblings, &ids, gone, &edit),
-            Plan::MoveNodes {
-                place,
-                siblings,
-                children,
-                ids,
-            } => self.relocate(place, siblings, children, ids, &edit),
-            Plan::ChangeNode { id, change } => self.change(id, change, &edit),
-            Plan::ResizeViewport { w, h, max } => self.resize(w, h, max, &edit),
-            Plan::ScrollViewport { to } => self.scroll_view(to, &edit),
-        };
+        let before = Snapshot::of(&self.tree);
+        let items_before = Snapshot::of(&self.items);
+        let frame = self.tree.frame();
+        self.tree.validity();
+        let earlier = renumber(&mut self.items, &self.tree, &plan, spare);
+        let taken = self.tree.carry_out(plan, &edit);
+        self.tree.validity();
         Undo {
             taken,
             frame,
+            earlier,
             edit,
             before,
-            after: Snapshot::of(self),
+            after: Snapshot::of(&self.tree),
+            items_before,
+            items_after: Snapshot::of(&self.items),
         }
     }
 
-    /// Takes an edit back: the page is the one before it, the next id too. It takes no memory, and the room stays.
+    /// Takes an edit back: the page is the one before it, the next id and the numbers of the items too. It takes no memory,
+    /// and the room stays.
     pub fn revert(&mut self, undo: Undo)
         requires contents { undo.after ≡ self.old.contents }
+        requires items { undo.items_after ≡ self.old.items }
         requires room { undo.room ≡ self.old.room }
         ensures contents { self.new.contents ≡ undo.before }
+        ensures items { HasSameItems undo.items_before self.new.items }
         ensures room { self.new.room ≡ self.old.room }
     {
         let Undo {
             taken,
             frame,
+            earlier,
             edit: _,
-            before: _,
+            before,
             after: _,
+            items_before: _,
+            items_after: _,
         } = undo;
-        put_back(&mut self.nodes, taken);
-        self.frame = frame;
+        self.tree.take_back(taken, frame, &before);
+        self.items.back_all(earlier);
     }
 
     /// Gives up what the edit took out, and answers it.
@@ -234,9 +232,12 @@ impl Page {
         let Undo {
             taken,
             frame: _,
+            earlier: _,
             edit: _,
             before: _,
             after: _,
+            items_before: _,
+            items_after: _,
         } = undo;
         answer_by(&taken)
     }
@@ -245,14 +246,22 @@ impl Page {
     pub fn next_id(&self) -> u32
         ensures { result ≡ self.now.contents.next }
     {
-        self.frame.next
+        self.tree.frame().next
     }
 
     /// What holds of the contents of every page.
     pub fn validity(&self)
         ensures { IsValid self.now.contents }
     {
-        let _ = &self.nodes;
+        self.tree.validity();
+    }
+
+    /// What holds of the numbers of the items of every page.
+    pub fn numbering(&self)
+        ensures { IsNumberedPage self.now.contents self.now.items }
+    {
+        self.tree.validity();
+        self.items.soundness();
     }
 }
 

@@ -1,8 +1,10 @@
 use crate::edit::Edit;
 use crate::form::Form;
+use crate::items::{Earlier, Items, Spare};
 use crate::node::{Boxes, IdList, Node};
 use crate::page::Page;
 use crate::sums::Sums;
+use crate::tree::Tree;
 use crate::viewport::Viewport;
 use computed_style::Style;
 use fractions::Spot;
@@ -134,6 +136,7 @@ pub(crate) enum Taken {
 #[derive(Drop)]
 pub struct Prepared {
     pub(crate) plan: Plan,
+    pub(crate) spare: Spare,
     pub(crate) edit: Snapshot<Edit>,
     pub(crate) page: Snapshot<Page>,
 }
@@ -150,7 +153,10 @@ impl Model for Prepared {
 
     ghost view = { λ p. record { edit = p.edit.value; page = p.page.value } };
 
-    ghost invariant = { λ p. IsPlanned p.plan p.edit.value p.page.value };
+    ghost use Rattle.box_tree.specs.PageState.{tree_part};
+    ghost use Rattle.box_tree.specs.Touched.{CanRenumber};
+
+    ghost invariant = { λ p. IsPlanned p.plan p.edit.value (tree_part p.page.value) × CanRenumber p.plan p.page.value.contents p.page.value.items p.page.value.item_room p.spare };
 }
 
 /// An edit that was carried out and not yet settled.
@@ -158,9 +164,12 @@ impl Model for Prepared {
 pub struct Undo {
     pub(crate) taken: Taken,
     pub(crate) frame: Frame,
+    pub(crate) earlier: Vec<Earlier>,
     pub(crate) edit: Snapshot<Edit>,
-    pub(crate) before: Snapshot<Page>,
-    pub(crate) after: Snapshot<Page>,
+    pub(crate) before: Snapshot<Tree>,
+    pub(crate) after: Snapshot<Tree>,
+    pub(crate) items_before: Snapshot<Items>,
+    pub(crate) items_after: Snapshot<Items>,
 }
 
 impl Model for Undo {
@@ -174,7 +183,9 @@ impl Model for Undo {
 
     ghost coded = { let label : Coded Label = Prim.hlevel codes in Prim.hlevel (codes, forest_code label) };
 
-    ghost view = { λ u. record { edit = u.edit.value; before = u.before.value.contents; after = u.after.value.contents; room = u.after.value.room } };
+    ghost view = { λ u. record { edit = u.edit.value; before = u.before.value.contents; after = u.after.value.contents; items_before = u.items_before.value.items; items_after = u.items_after.value.items; room = u.after.value.room } };
 
-    ghost invariant = { λ u. IsUndo u.taken u.frame u.edit.value u.before.value u.after.value };
+    ghost use Rattle.box_tree.specs.Undone.{IsItemsUndo};
+
+    ghost invariant = { λ u. IsUndo u.taken u.frame u.edit.value u.before.value u.after.value × IsItemsUndo u.earlier.items u.before.value.contents u.items_before.value.items u.items_after.value.items };
 }

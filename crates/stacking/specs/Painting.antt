@@ -2,11 +2,12 @@
 use Rattle.std.specs.Prelude.{ℕ, zero, suc, ◌+◌, List, [], ◌∷◌, ◌++◌, map, Option, Some, None, Bool, true, false, not, ◌&&◌, ◌||◌, if◌then◌else◌, ℤ, pos, int_lt, nat_lt}
 use Rattle.std.specs.List.{filter, flat_map}
 use Rattle.box_tree.specs.declared.kind.Kind.{Kind}
-use Rattle.box_tree.specs.declared.kind.Kind.TheVariants.{Inline, Image, Svg, Text, Shape}
+use Rattle.box_tree.specs.declared.kind.Kind.TheVariants.{Inline, Image, Svg, Text}
 use Rattle.box_tree.specs.declared.piece.Piece.{Piece}
 use Rattle.box_tree.specs.declared.item.Item.{Item}
-use Rattle.box_tree.specs.declared.item.Part.TheVariants.{Box, Content, Outline}
+use Rattle.box_tree.specs.declared.item.Part.TheVariants.{Box}
 use Rattle.box_tree.specs.Forest.{Label, Forest, End, Grow, height_of, Placed}
+pub use Rattle.box_tree.specs.Items.{box_items, content_item, drawn_as, drawn}
 use Rattle.box_tree.specs.Suits.{is_svg_content}
 use Rattle.box_tree.specs.Containing.{parent_of}
 use Rattle.box_tree.specs.Used.{is_floating, is_block_level, is_block_container, is_atomic, is_positioned, is_real_context, stack_level, is_in_flow}
@@ -62,28 +63,9 @@ at word p = word (parent_of p.above) p.label
 
 -- The items of a node.
 
--- the items of boxes, of which the first has this number
-abbrev pub box_items : ℕ → ℕ → List Piece → List Item
-box_items id place [] = []
-box_items id place (box ∷ boxes) = record { node = id; part = Box place } ∷ box_items id (place + 1) boxes
-
 -- the boxes of a node in order
 abbrev pub own : Placed → List Item
 own p = box_items p.label.id 0 p.label.boxes
-
--- the picture of an image with these boxes: one item where it has a box
-abbrev pub content_item : ℕ → List Piece → List Item
-content_item id [] = []
-content_item id (box ∷ boxes) = record { node = id; part = Content } ∷ []
-
--- what a node of a kind is drawn as beside its boxes: the picture of an image with a box; the outline of a shape
-abbrev pub drawn_as : Kind → ℕ → List Piece → List Item
-drawn_as Image id boxes = content_item id boxes
-drawn_as Shape id boxes = record { node = id; part = Outline } ∷ []
-drawn_as kind id boxes = []
-
-abbrev pub drawn : Label → List Item
-drawn n = drawn_as n.kind n.id n.boxes
 
 -- the boxes of a node that is block level or atomic; those of another lie on lines
 abbrev pub head : Placed → List Item

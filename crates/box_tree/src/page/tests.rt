@@ -4,6 +4,7 @@ ghost use Rattle.box_tree.specs.Contents.{has_id};
 use super::*;
 use crate::edit::Edit;
 use crate::kind::Kind;
+use crate::node::ORIGIN;
 use crate::piece::{Piece, PieceList};
 use computed_style::Style;
 use fractions::{Blank, Brand};
@@ -12,6 +13,7 @@ use std::test::Fail;
 
 mod counts;
 mod forms;
+mod items;
 mod kinds;
 mod layouts;
 mod reverts;

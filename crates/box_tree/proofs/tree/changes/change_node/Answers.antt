@@ -1,0 +1,28 @@
+-- The node is taken, gets what the change holds and is put back.
+use Rattle.std.proofs.Common.{ap, sym, ◌∙◌, arith}
+use Rattle.box_tree.specs.declared.node.Node.{Node}
+use Rattle.box_tree.specs.Change.{changed}
+use Rattle.box_tree.specs.Kept.{with_label}
+use Rattle.box_tree.proofs.ExchangeLemmas.{absent_at, changed_by, id-changed}
+use Rattle.box_tree.proofs.KeptLemmas.{id-node_with}
+use Rattle.box_tree.proofs.tree.changes.change_node.Goals as goal
+
+pub put-requires-clause-absent : goal.put-requires-clause-absent
+put-requires-clause-absent c =
+    let node = c.take-node.result in
+    absent_at _ _ c.args.id c.exchange-had.new.node.id c.take-node.ensures.looked_up
+    (ap (λ (n : Node). n.id) c.exchange-had.ensures.changed ∙ id-changed c.args.change node ∙ id-node_with c.args.nodes.now.nodes c.args.id node (sym c.take-node.ensures.taken))
+
+pub put-requires-clause-placed : goal.put-requires-clause-placed
+put-requires-clause-placed c =
+    let node = c.take-node.result in
+    omega (arith, ap (λ (n : Node). n.id) c.exchange-had.ensures.changed, id-changed c.args.change node, id-node_with c.args.nodes.now.nodes c.args.id node (sym c.take-node.ensures.taken), c.take-node.ensures.placed)
+
+pub returns-clause-changed : goal.returns-clause-changed
+returns-clause-changed c =
+    let took = c.take-node.ensures in
+    let put = c.put.ensures in
+    let node = c.take-node.result in
+    changed_by c.args.nodes.now c.take-node.new.self c.put.new.self c.args.id node c.exchange-had.new.node (with_label (changed c.args.change)) took.taken took.looked_up took.count took.room took.ids
+    c.exchange-had.ensures.changed
+    (ap (λ (n : Node). n.id) c.exchange-had.ensures.changed ∙ id-changed c.args.change node ∙ id-node_with c.args.nodes.now.nodes c.args.id node (sym took.taken)) put.looked_up put.count put.room put.ids
