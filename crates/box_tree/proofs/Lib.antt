@@ -32,3 +32,4 @@ pub mod SeenLemmas
 pub mod NumberedPages
 pub mod ItemsStates
 pub mod ItemCount
+pub mod ItemBound

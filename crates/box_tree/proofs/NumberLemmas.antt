@@ -148,6 +148,7 @@ module _ (id : ℕ) (kind : Kind) (list : List ℕ) (given : List Item) (free : 
     counts = omega arith;
     grows = omega arith;
     most = omega arith;
+    full = inl refl;
     freed = λ k. omega arith;
     items = λ place from to. absurd (omega (arith, from, to));
     others = λ k apart within. refl;
@@ -193,6 +194,10 @@ module _ (id : ℕ) (kind : Kind) (list : List ℕ) (given : List Item) (free : 
         counts = omega (arith, length-push list' number, ap (λ (xs : List ℕ). length xs) free_is, length-push free'' number, same_length, filled.counts);
         grows = omega (arith, same_length, filled.grows);
         most = omega (arith, same_length, filled.most, length-push list' number);
+        full = elim filled.full [
+          | inl same ↦ inl (same_length ∙ same)
+          | inr none ↦ absurd (omega (arith, ap (λ (xs : List ℕ). length xs) none, ap (λ (xs : List ℕ). length xs) free_is, length-push free'' number))
+        ];
         freed = λ k. omega (arith, free_times k, filled.freed k);
         items = λ place from to. elim (at_place place number to) [
           | inl before ↦
@@ -236,6 +241,7 @@ module _ (id : ℕ) (kind : Kind) (list : List ℕ) (given : List Item) (free : 
       counts = omega (arith, length-push list' (length given'), ap (λ (xs : List ℕ). length xs) none, longer_given, filled.counts);
       grows = omega (arith, longer_given, filled.grows);
       most = omega (arith, longer_given, filled.most, length-push list' (length given'));
+      full = inr refl;
       freed = λ k. omega arith;
       items = λ place from to. elim (at_place place (length given') to) [
         | inl before ↦
@@ -273,11 +279,14 @@ module _ (s : ItemsState) (sound : AreSound s) (id : ℕ) (kind : Kind) (list' :
   abbrev pub grown_to : ItemsState
   grown_to = record { given = given'; lists = set s.lists id list'; free = free' }
 
-  pub sound-grown : length given' ≤ 655360 → AreSound grown_to
-  sound-grown most = record {
+  pub sound-grown : sum_by (λ list. length list) s.lists + length list' ≤ 327680 + length (numbers_of s id) → AreSound grown_to
+  sound-grown few = record {
     each_once = λ k. omega (arith, sum_by-set (λ (l : List ℕ). times_in k l) s.lists id list' [] placed, filled.times k, sound.each_once k);
     count = omega (arith, sum_by-set (λ (l : List ℕ). length l) s.lists id list' [] placed, filled.counts, sound.count);
-    most = most;
+    most = elim filled.full [
+      | inl same ↦ omega (arith, same, sound.most)
+      | inr none ↦ omega (arith, ap (λ (xs : List ℕ). length xs) none, filled.counts, sound.count, few)
+    ];
   }
 
   numbers-grown : numbers_of grown_to id ≡ list'

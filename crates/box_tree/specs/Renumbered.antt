@@ -45,6 +45,7 @@ pub record IsFilled (id : ℕ) (kind : Kind) (list : List ℕ) (given : List Ite
   pub counts : length list' + length free' + length given ≡ length list + length free + length given'
   pub grows : length given ≤ length given'
   pub most : length given' + length list ≤ length given + length list'
+  pub full : (length given' ≡ length given) ⊎ (free' ≡ [])
   pub freed : (k : ℕ) → times_in k free' ≤ times_in k free
   pub items : (place : ℕ) → length list ≤ place → place < length list' → slice_get given' (slice_index_or list' place 0) ≡ Some (item_at id kind place)
   pub others : (k : ℕ) → times_in k free ≡ 0 → k < length given → slice_get given' k ≡ slice_get given k

@@ -1,5 +1,5 @@
 -- Which nodes an edit gives other items.
-use Rattle.std.specs.Prelude.{◌≡◌, ℕ, ◌+◌, ◌<◌, ◌≤◌, ◌==◌, if◌then◌else◌, List, [], length, Option, Some, None, IfSome, vec_len, vec_capacity}
+use Rattle.std.specs.Prelude.{◌≡◌, ℕ, ◌+◌, ◌<◌, ◌≤◌, ◌==◌, if◌then◌else◌, List, [], length, Option, Some, None, IfSome, sum_by, vec_len, vec_capacity}
 use Rattle.std.specs.Option.{option_map}
 use Rattle.box_tree.specs.declared.items.Spare.{Spare}
 use Rattle.box_tree.specs.declared.kind.Kind.{Kind}
@@ -16,7 +16,7 @@ use Rattle.box_tree.specs.Contents.{Contents, node_of}
 use Rattle.box_tree.specs.Kept.{with_label}
 use Rattle.box_tree.specs.Nodes.{changed_at}
 use Rattle.box_tree.specs.Planned.{is_among}
-use Rattle.box_tree.specs.Numbers.{ItemsState}
+use Rattle.box_tree.specs.Numbers.{ItemsState, numbers_of}
 use Rattle.box_tree.specs.Renumbered.{IsResized, IsTakenFrom}
 
 -- how many items a node of a kind has that suits it with so many boxes
@@ -51,9 +51,15 @@ seen_after (RemoveNodes parent siblings ids gone) id o = if is_among ids id then
 seen_after (ChangeNode id' change) id o = seen_of (changed_at id' (with_label (changed change)) id o)
 seen_after plan id o = seen_of o
 
+-- with its items a page has no more than it may have
+pub record HasRoomAmong (s : ItemsState) (t : Touched) : Type 0 where
+  pub most : sum_by (λ list. length list) s.lists + t.count ≤ 327680 + length (numbers_of s t.id)
+  pub few : t.count ≤ 1025
+
 -- there is room for the numbers of a node that is touched
 pub record CanTouch (s : ItemsState) (room : ℕ) (spare : Spare) (t : Touched) : Type 0 where
   pub placed : t.id < length s.lists
+  pub among : HasRoomAmong s t
   pub fits : length s.given + t.count ≤ room
   pub list_room : t.count ≤ spare.list.capacity
   pub one : 1 ≤ vec_capacity spare.earlier

@@ -1,11 +1,10 @@
 // The items of a page under their numbers.
-ghost use Rattle.std.specs.Prelude.{◌≡◌, ◌+◌, ◌<◌, ◌≤◌, ◌++◌, ◌^◌, ℕ, List, [], length, take, drop, map, slice_index_or, slice_set, IfErr, OnOk, sum_by, vec_len, vec_capacity};
+ghost use Rattle.std.specs.Prelude.{◌≡◌, ◌+◌, ◌<◌, ◌≤◌, ◌++◌, ◌^◌, ℕ, List, [], length, take, drop, map, slice_index_or, slice_set, OnOk, sum_by, vec_len, vec_capacity};
 ghost use Rattle.box_tree.specs.Numbers.{numbers_of, Names, IsNumber, HasSameItems};
 ghost use Rattle.box_tree.specs.Planned.{times_in};
 ghost use Rattle.box_tree.specs.Renumbered.{item_at, once_below, Gives, IsFilled, IsGrown, IsResized, IsTakenFrom, with_fewer, back_one, back_by, CanHaveAgain, CanGoBackBy};
 ghost use Rattle.box_tree.specs.Sound.{AreSound};
 
-use crate::edit::EditFault;
 use crate::item::{Item, Part};
 use crate::kind::Kind;
 use crate::node::IdList;
@@ -13,9 +12,6 @@ use smallvec::SmallVec;
 use std::alloc::{AllocError, Global};
 use std::marker::Model;
 use std::mem::replace;
-
-// Below this all numbers of items are.
-const NUMBERS: usize = 655_360;
 
 /// The numbers that the items of a node had before an edit.
 #[derive(Drop)]
@@ -95,23 +91,20 @@ impl Items {
     }
 
     /// Makes room for so many numbers in the list of a node.
-    pub(crate) fn reserve(&mut self, id: u32, count: usize) -> Result<(), EditFault>
+    pub(crate) fn reserve(&mut self, id: u32, count: usize) -> Result<(), AllocError>
+        requires { count ≤ 327680 }
         ensures items { HasSameItems self.old.items self.new.items }
         ensures given { self.new.items.given ≡ self.old.items.given }
         ensures free { self.new.items.free ≡ self.old.items.free }
+        ensures total { sum_by (λ list. length list) self.new.items.lists ≡ sum_by (λ list. length list) self.old.items.lists }
         ensures placed { OnOk result (id < length self.new.items.lists) }
         ensures room { OnOk result (length self.new.items.given + count ≤ self.new.room) }
-        ensures memory { IfErr result (λ why. why ≡ EditFault.OutOfMemory) }
     {
         let alloc = *self.given.allocator();
-        if self.given.len() > NUMBERS || count > NUMBERS - self.given.len() {
-            return Err(EditFault::OutOfMemory);
-        }
         self.given.reserve(count)?;
         let numbers = self.given.len() - self.free.len() + count;
         self.free.reserve(numbers)?;
-        give_list(alloc, &mut self.lists, id)?;
-        Ok(())
+        give_list(alloc, &mut self.lists, id)
     }
 
     /// Gives a node so many items: the first ones keep their numbers. It answers the list that the node had. The list that
@@ -127,6 +120,7 @@ impl Items {
         requires none { list.items ≡ [] }
         requires list_room { count ≤ list.capacity }
         requires room { length self.old.items.given + count ≤ self.old.room }
+        requires most { sum_by (λ list. length list) self.old.items.lists + count ≤ 327680 + length (numbers_of self.old.items id) }
         ensures had { result.items ≡ numbers_of self.old.items id }
         ensures resized { IsResized id kind count self.old.items self.new.items }
     {
@@ -152,6 +146,7 @@ impl Items {
         requires none { list.items ≡ [] }
         requires list_room { count ≤ list.capacity }
         requires room { length self.old.items.given + count ≤ self.old.room }
+        requires most { sum_by (λ list. length list) self.old.items.lists + count ≤ 327680 + length (numbers_of self.old.items id) }
         ensures had { result.items ≡ numbers_of self.old.items id }
         ensures grown { IsGrown id kind count self.old.items self.new.items }
     {

@@ -149,7 +149,7 @@ impl Page {
         ensures first_fault { IfErr result (λ why. why ≢ EditFault.OutOfMemory → first_fault self.old.contents edit.now ≡ Some why) }
     {
         let plan = self.tree.plan(edit)?;
-        let spare = self.spare_for(&plan)?;
+        let spare = self.spare_for(&plan, edit)?;
         Ok(Prepared {
             plan,
             spare,

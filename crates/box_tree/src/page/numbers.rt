@@ -1,12 +1,14 @@
 // Which numbers of items an edit gives and takes.
-ghost use Rattle.std.specs.Prelude.{◌≡◌, IfOk, IfErr, length};
+ghost use Rattle.std.specs.Prelude.{◌≡◌, IfOk, IfErr, IfSome, length};
 ghost use Rattle.box_tree.specs.Contents.{node_of};
 ghost use Rattle.box_tree.specs.Numbers.{HasSameItems};
+ghost use Rattle.box_tree.specs.PageState.{tree_part};
+ghost use Rattle.box_tree.specs.Planned.{IsPlanned};
 ghost use Rattle.box_tree.specs.Renumbered.{back_by, CanGoBackBy};
-ghost use Rattle.box_tree.specs.Touched.{item_count_of as item_count_of_kind, touched, gone_ids, CanRenumber, IsRenumbered};
+ghost use Rattle.box_tree.specs.Touched.{item_count_of as item_count_of_kind, touched, gone_ids, HasRoomAmong, CanRenumber, IsRenumbered};
 
 use super::Page;
-use crate::edit::EditFault;
+use crate::edit::{Edit, EditFault};
 use crate::items::{Earlier, Items, Spare};
 use crate::kind::Kind;
 use crate::plan::{Change, Plan};
@@ -23,7 +25,8 @@ pub(crate) struct Touched {
 
 impl Page {
     // All memory that giving and taking numbers takes for a plan.
-    pub(super) fn spare_for(&mut self, plan: &Plan) -> Result<Spare, EditFault>
+    pub(super) fn spare_for(&mut self, plan: &Plan, edit: &Edit) -> Result<Spare, EditFault>
+        requires { IsPlanned plan.now edit.now (tree_part self.old) }
         ensures contents { self.new.contents ≡ self.old.contents }
         ensures room { self.new.room ≡ self.old.room }
         ensures ids { self.new.ids ≡ self.old.ids }
@@ -31,6 +34,7 @@ impl Page {
         ensures can { IfOk result (λ spare. CanRenumber plan.now self.new.contents self.new.items self.new.item_room spare) }
         ensures memory { IfErr result (λ why. why ≡ EditFault.OutOfMemory) }
     {
+        self.has_room(plan, edit);
         let alloc = *self.tree.allocator();
         let Some(node) = touched_node(&self.tree, plan) else {
             return Ok(Spare {
@@ -43,6 +47,14 @@ impl Page {
             list: SmallVec::with_capacity(alloc, node.count)?,
             earlier: Vec::with_capacity(alloc, 1)?,
         })
+    }
+
+    // A planned edit leaves no more items than a page may have.
+    fn has_room(&self, _plan: &Plan, _edit: &Edit)
+        requires { IsPlanned _plan.now _edit.now (tree_part self.now) }
+        ensures { IfSome (touched _plan.now (node_of self.now.contents)) (HasRoomAmong self.now.items) }
+    {
+        self.tree.validity();
     }
 }
 
