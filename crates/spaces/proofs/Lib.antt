@@ -14,3 +14,4 @@ pub mod AroundLemmas
 pub mod WrittenLemmas
 pub mod TableLemmas
 pub mod OutsideLemmas
+pub mod TableFrameLemmas

@@ -1,15 +1,18 @@
 -- The table of the spaces of the nodes of a page and of the values that they inherit.
-use Rattle.std.specs.Prelude.{◌≡◌, ℕ, ◌<◌, List, Bool, true, if◌then◌else◌, ◌==◌, Option, Some, None, IsFalse, IsSome, slice_index_or}
+use Rattle.std.specs.Prelude.{◌≡◌, ℕ, ◌<◌, List, Bool, true, if◌then◌else◌, ◌==◌, Option, Some, None, IsFalse, IsSome, slice_index_or, [], unwrap_or}
 use Rattle.std.specs.Ordering.{nat_cmp}
 use Rattle.std.specs.Map.{lookup}
 use Rattle.std.specs.BTreeMap.{is_at}
 use Rattle.std.specs.Option.{option_map_or, option_and_then, option_or}
+use Rattle.box_tree.specs.declared.edit.Edit.{Edit}
+use Rattle.box_tree.specs.declared.edit.Edit.TheVariants.{Add, Remove, Move, Place, Restyle, Reshape, Scroll, Resize, ScrollView}
 use Rattle.box_tree.specs.declared.viewport.Viewport.{Viewport}
 use Rattle.box_tree.specs.Forest.{Forest, End, Grow, ids_in, Placed}
 use Rattle.box_tree.specs.Contents.{Contents, placed_of, tree_of}
 use Rattle.box_tree.specs.Containing.{Standing}
 use Rattle.box_tree.specs.Planned.{is_among}
 use Rattle.spaces.specs.declared.table.entry.Entry.{Entry}
+use Rattle.spaces.specs.Frame.{edited_node}
 use Rattle.spaces.specs.Spaces.{is_laid_out, space_of, standing_at}
 use Rattle.spaces.specs.Values.{values_below}
 use Rattle.spaces.specs.Bound.{are_bounded, is_bounded}
@@ -70,3 +73,20 @@ is_bounded_from page id = option_map_or (λ p. are_bounded page.viewport p.above
 -- the same of the nodes of a subtree
 abbrev pub is_bounded_in : Contents → ℕ → Bool
 is_bounded_in page subtree = if subtree == 0 then is_bounded page else is_bounded_from page subtree
+
+-- the id whose subtree an edit makes to be renewed: that of the node that it changes, and 0 for the whole page where it
+-- changes the viewport
+abbrev pub renewed_node : Contents → Edit → ℕ
+renewed_node page edit = unwrap_or (edited_node page edit) 0
+
+-- the ids that an edit takes out of a page
+abbrev pub removed_ids : Contents → Edit → List ℕ
+removed_ids page (Add parent at kind boxes style) = []
+removed_ids page (Remove id) = ids_in (tree_of page id)
+removed_ids page (Move id parent at) = []
+removed_ids page (Place id anchor boxes max) = []
+removed_ids page (Restyle id style) = []
+removed_ids page (Reshape id form) = []
+removed_ids page (Scroll id x y) = []
+removed_ids page (Resize w h max) = []
+removed_ids page (ScrollView x y) = []

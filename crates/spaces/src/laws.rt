@@ -1,12 +1,13 @@
 //! Laws of the definitions, each the contract of a function without a body.
-ghost use Rattle.std.specs.Prelude.{◌≡◌, ℕ, List, Option, None, Some, IsSomeAnd};
+ghost use Rattle.std.specs.Prelude.{◌≡◌, ℕ, ℤ, List, [], Option, None, Some, IsSome, IsSomeAnd};
 ghost use Rattle.box_tree.specs.declared.edit.Edit.{Edit};
-ghost use Rattle.box_tree.specs.Contents.{Contents};
+ghost use Rattle.std.specs.Option.{option_map, option_and_then};
+ghost use Rattle.box_tree.specs.Contents.{Contents, empty_page};
 ghost use Rattle.box_tree.specs.Edited.{edited};
 ghost use Rattle.spaces.specs.Frame.{edited_node, IsFaultless, StandsApart, IsOutside};
 ghost use Rattle.spaces.specs.declared.table.entry.Entry.{Entry};
 ghost use Rattle.spaces.specs.Spaces.{space};
-ghost use Rattle.spaces.specs.Table.{IsTableOf, IsTableOutside};
+ghost use Rattle.spaces.specs.Table.{entry_of, entry_under, new_entry, renewed_entry, applied, renewed_node, removed_ids, IsTableOf, IsTableOutside};
 ghost use Rattle.spaces.specs.Values.{values};
 
 /// An edit of a node leaves the space and the values of each node outside of it, which is neither the edited node nor
@@ -19,9 +20,18 @@ pub fn frame_spaces()
     ensures outside { (page : Contents) (edit : Edit) (id : ℕ) → IsFaultless page edit → IsSomeAnd (edited_node page edit) (λ node. StandsApart page node id) → IsOutside page edit id }
 {}
 
-/// A table of a page suits `SpaceTable::renew` on the page that an edit of a node leaves: it has the entries of the nodes
-/// outside of that node. Any table suits the renewal of a whole page.
+/// A table of a page suits `SpaceTable::renew` on the page that an edit leaves, for the node that the edit changes, and for the
+/// whole page where it changes the viewport. With the change that this gives applied to it, and the ids taken out that the
+/// edit takes out, it is the table of that page. A table without an entry is that of a page with no node.
 pub fn frame_table()
-    ensures outside { (table : List (Option Entry)) (page : Contents) (edit : Edit) (node : ℕ) → IsFaultless page edit → edited_node page edit ≡ Some node → IsTableOf table page → IsTableOutside table (edited page edit) node }
-    ensures whole { (table : List (Option Entry)) (page : Contents) → IsTableOutside table page 0 }
+    ensures suits { (table : List (Option Entry)) (page : Contents) (edit : Edit) → IsFaultless page edit → IsTableOf table page → IsTableOutside table (edited page edit) (renewed_node page edit) }
+    ensures applied { (table new : List (Option Entry)) (page : Contents) (edit : Edit) (change : List (ℕ × Entry)) → IsFaultless page edit → IsTableOf table page →
+        ((id : ℕ) → new_entry change id ≡ renewed_entry (edited page edit) (renewed_node page edit) id) → ((id : ℕ) → entry_under new id ≡ applied table change (removed_ids page edit) id) → IsTableOf new (edited page edit) }
+    ensures empty { (w h : ℤ) → IsTableOf [] (empty_page w h) }
+{}
+
+/// What a table of a page has of an id is the space of its node, and where it has an entry the values of that node.
+pub fn table_entries()
+    ensures space { (page : Contents) (id : ℕ) → option_and_then (λ entry. entry.space) (entry_of page id) ≡ space page id }
+    ensures values { (page : Contents) (id : ℕ) → IsSome (entry_of page id) → option_map (λ entry. entry.values) (entry_of page id) ≡ values page id }
 {}

@@ -263,3 +263,6 @@ fn top_of(page: &Page, subtree: u32) -> Option<u32>
         None
     }
 }
+
+#[cfg(test)]
+mod tests;
