@@ -57,10 +57,10 @@ checked_along-all viewport n (holder ∷ holders) within outer =
     ∙ checked-all (space_along viewport holder holders) (space_factors (Some holder) n) within
 
 -- no partial product of a node passes the bound
-abbrev IsBoundedBelow : Viewport → List Label → Label → Type 0
+abbrev pub IsBoundedBelow : Viewport → List Label → Label → Type 0
 IsBoundedBelow viewport above n = is_bounded_at viewport (record { label = n; above = above }) ≡ true
 
-each-bounded : (viewport : Viewport) (above : List Label) (f : Forest) → are_bounded viewport above f ≡ true → EachNode (IsBoundedBelow viewport) above f
+pub each-bounded : (viewport : Viewport) (above : List Label) (f : Forest) → are_bounded viewport above f ≡ true → EachNode (IsBoundedBelow viewport) above f
 each-bounded viewport above End is = tt
 each-bounded viewport above (Grow n below others) is =
     let here = both _ _ is in
@@ -85,7 +85,7 @@ bounded-where_space : (viewport : Viewport) (n : Standing) → has_space n ≡ t
 bounded-where_space viewport n has is = sym (ap (λ b. if b then list_all is_within_bound (partial_products viewport n) else true) has) ∙ is
 
 module _ (page : Contents) (valid : IsValid page) (bounded : IsTrue (is_bounded page)) where
-  bounded-placed : (id : ℕ) (p : Placed) → placed_of page id ≡ Some p → IsBoundedBelow page.viewport p.above p.label
+  pub bounded-placed : (id : ℕ) (p : Placed) → placed_of page id ≡ Some p → IsBoundedBelow page.viewport p.above p.label
   bounded-placed id p found = (each-placed (IsBoundedBelow page.viewport) page.tree [] id p (each-bounded page.viewport [] page.tree bounded) found).0
 
   bounded-holders : (seeker : Label) (above : List Label) → AreAncestors page above → list_all shows above ≡ true → AreBoundedHolders page.viewport (holders_among (sought seeker) above)

@@ -15,3 +15,4 @@ pub mod WrittenLemmas
 pub mod TableLemmas
 pub mod OutsideLemmas
 pub mod TableFrameLemmas
+pub mod BoundFrameLemmas

@@ -223,6 +223,11 @@ module _ (page : Contents) (valid : IsValid page) (id : ℕ) (node : Node) (seen
       bounded = sym walked.bounded ∙ bounded-end k all;
     }
 
+    -- a node without children
+    pub walked-leaf : (entry : Entry) → option_map (λ p. entry_at page.viewport (standing_at p)) (placed_of page id) ≡ Some entry → is_bounded_by page id ≡ true →
+        ((x : ℕ) → new_entry now x ≡ (if is_laid_out node.kind && id == x then Some entry else new_entry before x)) → length now ≤ length before + 1 → (length node.children == 0) ≡ true → IsWalkedAll page id before now
+    walked-leaf entry entry_is own put few none = walked-end 0 (walked-start entry entry_is own put few) (grind (arith, nat_tests))
+
     module _ (k child d : ℕ) (in_list : k < length node.children) (is : get_or node.children k d ≡ child) (walked : IsWalked page id k before now) where
       pub walked-step : (after : List (ℕ × Entry)) → ((x : ℕ) → new_entry after x ≡ written_from page child x (new_entry now x)) → length after ≤ length now + node_count (tree_of page child) → is_bounded_from page child ≡ true →
           IsWalked page id (k + 1) before after

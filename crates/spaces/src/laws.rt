@@ -1,13 +1,14 @@
 //! Laws of the definitions, each the contract of a function without a body.
-ghost use Rattle.std.specs.Prelude.{◌≡◌, ℕ, ℤ, List, [], Option, None, Some, IsSome, IsSomeAnd};
+ghost use Rattle.std.specs.Prelude.{◌≡◌, ℕ, ℤ, List, [], Option, None, Some, IsSome, IsSomeAnd, IsTrue};
 ghost use Rattle.box_tree.specs.declared.edit.Edit.{Edit};
 ghost use Rattle.std.specs.Option.{option_map, option_and_then};
-ghost use Rattle.box_tree.specs.Contents.{Contents, empty_page};
+ghost use Rattle.box_tree.specs.Contents.{Contents, empty_page, IsValid};
 ghost use Rattle.box_tree.specs.Edited.{edited};
 ghost use Rattle.spaces.specs.Frame.{edited_node, IsFaultless, StandsApart, IsOutside};
 ghost use Rattle.spaces.specs.declared.table.entry.Entry.{Entry};
 ghost use Rattle.spaces.specs.Spaces.{space};
-ghost use Rattle.spaces.specs.Table.{entry_of, entry_under, new_entry, renewed_entry, applied, renewed_node, removed_ids, IsTableOf, IsTableOutside};
+ghost use Rattle.spaces.specs.Bound.{is_bounded};
+ghost use Rattle.spaces.specs.Table.{is_bounded_in, entry_of, entry_under, new_entry, renewed_entry, applied, renewed_node, removed_ids, IsTableOf, IsTableOutside};
 ghost use Rattle.spaces.specs.Values.{values};
 
 /// An edit of a node leaves the space and the values of each node outside of it, which is neither the edited node nor
@@ -28,6 +29,12 @@ pub fn frame_table()
     ensures applied { (table new : List (Option Entry)) (page : Contents) (edit : Edit) (change : List (ℕ × Entry)) → IsFaultless page edit → IsTableOf table page →
         ((id : ℕ) → new_entry change id ≡ renewed_entry (edited page edit) (renewed_node page edit) id) → ((id : ℕ) → entry_under new id ≡ applied table change (removed_ids page edit) id) → IsTableOf new (edited page edit) }
     ensures empty { (w h : ℤ) → IsTableOf [] (empty_page w h) }
+{}
+
+/// Where a page is within the bound on maps and an edit has no fault, the page that the edit leaves is within the bound
+/// exactly where the subtree that it makes to be renewed is.
+pub fn frame_bound()
+    ensures { (page : Contents) (edit : Edit) → IsFaultless page edit → IsTrue (is_bounded page) → IsValid (edited page edit) → is_bounded_in (edited page edit) (renewed_node page edit) ≡ is_bounded (edited page edit) }
 {}
 
 /// What a table of a page has of an id is the space of its node, and where it has an entry the values of that node.

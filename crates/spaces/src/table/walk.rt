@@ -29,9 +29,13 @@ pub(crate) fn renew_from<L: Ledger>(
     ensures beyond { IfErr result (λ why. why ≡ BoundOrMemory.Bound → IsFalse (is_bounded_from page.now.contents id)) }
 {
     let entry = around.entry(page, id, steps)?;
-    let inside = around.inside(page, id, entry.space, steps);
+    let space = entry.space;
     let node = page.node(id, steps);
     change.put(id, node.kind, entry)?;
+    if node.children.as_slice().is_empty() {
+        return Ok(());
+    }
+    let inside = around.inside(page, id, space, steps);
     for child in node.children.as_slice() {
         renew_from(page, *child, &inside, change, steps)?;
     }

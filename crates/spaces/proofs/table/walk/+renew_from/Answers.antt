@@ -1,9 +1,9 @@
 -- The node itself, then a child with all below it, and then the other children.
-use Rattle.std.proofs.Common.{◌≡◌, ◌<◌, ◌≤◌, ℕ, List, length, get_or, subst, sym, ap, ◌∙◌, arith}
+use Rattle.std.proofs.Common.{◌≡◌, ◌==◌, ◌<◌, ◌≤◌, ℕ, List, length, get_or, subst, sym, ap, ◌∙◌, arith}
 use Rattle.spaces.specs.Around.{IsAround}
 use Rattle.box_tree.specs.Forest.{Label}
 use Rattle.spaces.proofs.WalkLemmas.{not_deepest}
-use Rattle.spaces.proofs.WrittenLemmas.{walked-start, walked-step, walked-beyond, walked-end, child-there, child-above, child-deeper, if_err-from_and}
+use Rattle.spaces.proofs.WrittenLemmas.{walked-start, walked-leaf, walked-step, walked-beyond, walked-end, child-there, child-above, child-deeper, if_err-from_and}
 use Rattle.spaces.proofs.table.walk.+renew_from.Goals as goal
 
 pub loop-child-init : goal.loop-child-init
@@ -60,3 +60,15 @@ pub returns-clause-bounded : goal.returns-clause-bounded
 returns-clause-bounded g t c =
     (walked-end c.args.page.now.contents c.requires.valid c.args.id c.node-node.result.now c.node-node.ensures.node c.args.change.now c.loop-child.change c.loop-child.child-index c.loop-child.invariant
     (subst (λ (ids : List ℕ). length ids ≤ c.loop-child.child-index) c.as_slice-child-items.ensures c.loop-child-test.false)).bounded
+
+pub returns-then-is_empty-clause-entries : goal.returns-then-is_empty-clause-entries
+returns-then-is_empty-clause-entries g t c =
+    (walked-leaf c.args.page.now.contents c.requires.valid c.args.id c.node-node.result.now c.node-node.ensures.node c.args.change.now c.put.new.self
+    c.in_ok-entry.entry c.in_ok-entry.ensures.entry c.in_ok-entry.ensures.bounded c.in_ok-put.ensures.entries c.in_ok-put.ensures.count
+    (ap (λ (ids : List ℕ). length ids == 0) (sym c.as_slice.ensures) ∙ sym c.is_empty.ensures ∙ c.if-is_empty.true)).entries
+
+pub returns-then-is_empty-clause-bounded : goal.returns-then-is_empty-clause-bounded
+returns-then-is_empty-clause-bounded g t c =
+    (walked-leaf c.args.page.now.contents c.requires.valid c.args.id c.node-node.result.now c.node-node.ensures.node c.args.change.now c.put.new.self
+    c.in_ok-entry.entry c.in_ok-entry.ensures.entry c.in_ok-entry.ensures.bounded c.in_ok-put.ensures.entries c.in_ok-put.ensures.count
+    (ap (λ (ids : List ℕ). length ids == 0) (sym c.as_slice.ensures) ∙ sym c.is_empty.ensures ∙ c.if-is_empty.true)).bounded
