@@ -3,6 +3,8 @@
 //! It promises that an edit is tested by the table of faults before anything is changed, that a tested edit is
 //! carried out without taking memory, that the page is then the edited one of `specs/Edited.antt`, and that an edit can
 //! be taken back: then the page is the one before it.
+//! Each box, each picture of an image and each outline of a shape has a number, which it keeps as long as it is there, by
+//! `specs/Numbers.antt`.
 //! It tells what holds a node and what its used values are, by `specs/Containing.antt` and `specs/Used.antt`.
 //! It stands on `fractions` for its points and its counter of steps, on `computed_style` for declared styles, and on
 //! `svg_shapes`, `image_maps` and `view_boxes` for the forms of nodes.
