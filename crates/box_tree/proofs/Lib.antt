@@ -33,3 +33,4 @@ pub mod NumberedPages
 pub mod ItemsStates
 pub mod ItemCount
 pub mod ItemBound
+pub mod RestLemmas

@@ -10,7 +10,7 @@ use Rattle.box_tree.specs.declared.containing.Wanted.{Wanted}
 use Rattle.box_tree.specs.declared.containing.Wanted.TheVariants.{Container, Positioned, Transformed, Parent}
 use Rattle.box_tree.specs.declared.kind.Kind.{Kind}
 use Rattle.box_tree.specs.declared.kind.Kind.TheVariants.{Block, Inline, InlineBlock, Image, Svg, Text, Map, Area, Group, Shape, Inner}
-use Rattle.box_tree.specs.Forest.{Label}
+use Rattle.box_tree.specs.Forest.{Label, Placed}
 use Rattle.box_tree.specs.Contents.{Contents, placed_of}
 use Rattle.box_tree.specs.Used.{is_block_container, is_positioned, is_transformed, is_clipping, is_real_context}
 
@@ -69,6 +69,10 @@ holder_among wanted (n ∷ above) =
 pub record Standing : Type 0 where
   pub label : Label
   pub above : List Label
+
+-- a node with its ancestors, by its place
+abbrev pub standing_at : Placed → Standing
+standing_at p = record { label = p.label; above = p.above }
 
 -- the containing block of what seeks this among these ancestors, the containing block of that one, and so on
 abbrev pub holders_among : Wanted → List Label → List Standing

@@ -4,6 +4,7 @@ pub mod Used
 pub mod Containing
 pub mod Covers
 pub mod Edited
+pub mod Frame
 pub mod Kept
 pub mod TreeState
 pub mod PageState

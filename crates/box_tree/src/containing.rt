@@ -25,9 +25,9 @@ pub enum Holder {
     Viewport,
 }
 
-/// What a node seeks among its ancestors as its containing block.
-#[derive(Clone, Copy)]
-pub(crate) enum Wanted {
+/// What a node seeks among its ancestors as its containing block (CSS 2.2, 10.1; CSS Transforms 1, 3).
+#[derive(Clone, Copy, Debug, PartialEq, Eq)]
+pub enum Wanted {
     /// A block container.
     Container,
     /// A positioned or transformed node.
@@ -89,8 +89,9 @@ impl Page {
     }
 }
 
-// What a node seeks as its containing block.
-fn sought(node: &Node) -> Wanted
+/// What a node seeks as its containing block, by its position: a text counts as static, and SVG content seeks its parent, and
+/// so do a map and an area (CSS 2.2, 10.1; SVG 2, 8.3).
+pub fn sought(node: &Node) -> Wanted
     ensures { result ≡ seeks (label_of node.now) }
 {
     sought_as(node.kind, node.style.position)
@@ -120,8 +121,9 @@ fn sought_at(position: Position) -> Wanted
     }
 }
 
-// Whether a node may be the containing block of what seeks this.
-fn may_hold(wanted: Wanted, parent: Option<&Node>, node: &Node) -> bool
+/// Whether a node, below this parent (none for the root), may be the containing block of what seeks this (CSS 2.2, 10.1; CSS
+/// Transforms 1, 3).
+pub fn may_hold(wanted: Wanted, parent: Option<&Node>, node: &Node) -> bool
     ensures { result ≡ may_hold wanted (option_map label_of (option_copied parent.entry)) (label_of node.now) }
 {
     match wanted {
@@ -132,8 +134,9 @@ fn may_hold(wanted: Wanted, parent: Option<&Node>, node: &Node) -> bool
     }
 }
 
-// What holds what seeks this, where no node may hold it.
-fn outermost(wanted: Wanted) -> Holder
+/// What holds what seeks this, where no node may hold it: the viewport for what seeks a transformed node, and else the initial
+/// containing block (CSS 2.2, 10.1).
+pub fn outermost(wanted: Wanted) -> Holder
     ensures { result ≡ outermost wanted }
 {
     match wanted {

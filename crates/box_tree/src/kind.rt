@@ -1,3 +1,6 @@
+ghost use Rattle.std.specs.Prelude.{◌≡◌};
+ghost use Rattle.box_tree.specs.Suits.{is_text, is_svg_content};
+
 /// What a node is (CSS 2.2, 9.2; SVG 2, 1.3; HTML, "Image maps").
 #[derive(Clone, Copy, Debug, PartialEq, Eq)]
 pub enum Kind {
@@ -23,4 +26,42 @@ pub enum Kind {
     Shape,
     /// An svg inside of an svg: a viewport for SVG content.
     Inner,
+}
+
+impl Kind {
+    /// Whether this is a run of text.
+    pub fn is_text(self) -> bool
+        ensures { result ≡ is_text self }
+    {
+        match self {
+            Kind::Text => true,
+            Kind::Block
+            | Kind::Inline
+            | Kind::InlineBlock
+            | Kind::Image
+            | Kind::Svg
+            | Kind::Map
+            | Kind::Area
+            | Kind::Group
+            | Kind::Shape
+            | Kind::Inner => false,
+        }
+    }
+
+    /// Whether this stands in an svg (SVG 2, 1.3).
+    pub fn is_svg_content(self) -> bool
+        ensures { result ≡ is_svg_content self }
+    {
+        match self {
+            Kind::Group | Kind::Shape | Kind::Inner => true,
+            Kind::Block
+            | Kind::Inline
+            | Kind::InlineBlock
+            | Kind::Image
+            | Kind::Svg
+            | Kind::Text
+            | Kind::Map
+            | Kind::Area => false,
+        }
+    }
 }

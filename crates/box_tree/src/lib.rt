@@ -29,7 +29,7 @@ mod tree;
 mod used;
 mod viewport;
 
-pub use containing::Holder;
+pub use containing::{Holder, Wanted, may_hold, outermost, sought};
 pub use edit::{Done, Edit, EditFault};
 pub use form::Form;
 pub use item::{Item, Part};

@@ -1,7 +1,7 @@
 // What suits which kind of node, row by row as the tables of `specs/Suits.antt` have it.
 ghost use Rattle.std.specs.Prelude.{◌≡◌, None};
 ghost use Rattle.std.specs.Option.{option_copied};
-ghost use Rattle.box_tree.specs.Suits.{is_flow as flows, is_text as names_text, is_svg_content as names_svg_content, is_map as names_map, is_area as names_area, may_hold as holds, box_count_suits as count_suits, takes_place as is_placed, takes_style as is_styled, takes_form as is_formed, takes_scroll as is_scrolled, style_suits as suits_style};
+ghost use Rattle.box_tree.specs.Suits.{is_flow as flows, is_map as names_map, is_area as names_area, may_hold as holds, box_count_suits as count_suits, takes_place as is_placed, takes_style as is_styled, takes_form as is_formed, takes_scroll as is_scrolled, style_suits as suits_style};
 ghost use Rattle.box_tree.specs.SuitsBelow.{kind_suits_below, node_suits_below};
 
 use crate::form::Form;
@@ -28,7 +28,7 @@ pub(crate) fn kind_suits(parent: Option<&Node>, kind: Kind) -> bool
     ensures { result ≡ kind_suits_below (option_copied parent.entry) kind }
 {
     match parent {
-        Some(node) => may_hold(Some(node.kind), kind) && !(node.depth == 1 && is_text(kind)),
+        Some(node) => may_hold(Some(node.kind), kind) && !(node.depth == 1 && kind.is_text()),
         None => may_hold(None, kind),
     }
 }
@@ -40,7 +40,7 @@ fn may_hold(parent: Option<Kind>, child: Kind) -> bool
     match parent {
         None => is_block(child),
         Some(Kind::Block | Kind::Inline | Kind::InlineBlock) => is_flow(child),
-        Some(Kind::Svg | Kind::Group | Kind::Inner) => is_svg_content(child),
+        Some(Kind::Svg | Kind::Group | Kind::Inner) => child.is_svg_content(),
         Some(Kind::Map) => is_area(child),
         Some(Kind::Image | Kind::Text | Kind::Area | Kind::Shape) => false,
     }
@@ -77,41 +77,6 @@ fn is_flow(kind: Kind) -> bool
         | Kind::Text
         | Kind::Map => true,
         Kind::Area | Kind::Group | Kind::Shape | Kind::Inner => false,
-    }
-}
-
-fn is_text(kind: Kind) -> bool
-    ensures { result ≡ names_text kind }
-{
-    match kind {
-        Kind::Text => true,
-        Kind::Block
-        | Kind::Inline
-        | Kind::InlineBlock
-        | Kind::Image
-        | Kind::Svg
-        | Kind::Map
-        | Kind::Area
-        | Kind::Group
-        | Kind::Shape
-        | Kind::Inner => false,
-    }
-}
-
-// What stands in an svg.
-pub(crate) fn is_svg_content(kind: Kind) -> bool
-    ensures { result ≡ names_svg_content kind }
-{
-    match kind {
-        Kind::Group | Kind::Shape | Kind::Inner => true,
-        Kind::Block
-        | Kind::Inline
-        | Kind::InlineBlock
-        | Kind::Image
-        | Kind::Svg
-        | Kind::Text
-        | Kind::Map
-        | Kind::Area => false,
     }
 }
 

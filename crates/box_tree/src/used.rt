@@ -8,7 +8,6 @@ ghost use Rattle.box_tree.specs.Used.{used_position, is_taken_out, is_floating, 
 use crate::form::Form;
 use crate::kind::Kind;
 use crate::node::Node;
-use crate::suits::is_svg_content;
 use computed_style::{Overflow, Position};
 
 /// The position that counts: that of its style, and static for a text, for SVG content, for a map and for an area
@@ -73,7 +72,7 @@ pub fn is_transformed(parent: Option<&Node>, node: &Node) -> bool
 pub fn has_acting_transform(parent: Option<&Node>, node: &Node) -> bool
     ensures { result ≡ has_acting_transform (option_map label_of (option_copied parent.entry)) (label_of node.now) }
 {
-    is_transformed(parent, node) || (is_svg_content(node.kind) && has_transform(node))
+    is_transformed(parent, node) || (node.kind.is_svg_content() && has_transform(node))
 }
 
 /// Whether a node clips what it holds: its overflow isn't visible, it has a box (an inner svg its viewport), and it is an svg,

@@ -15,11 +15,11 @@ use Rattle.box_tree.specs.Forms.{IsFormInRange}
 use Rattle.box_tree.specs.declared.form.Form.{Form}
 use Rattle.box_tree.specs.declared.form.Form.TheVariants.{Outline, Cover, View, Port, MapName}
 use Rattle.box_tree.specs.Used.{has_box, gives_port, is_clipping}
-use Rattle.box_tree.specs.Containing.{Standing, parent_of, containing_block, containing_block_chain, clips}
+use Rattle.box_tree.specs.Containing.{Standing, parent_of, containing_block, containing_block_chain, clips, standing_at}
 use Rattle.box_tree.specs.Kept.{label_of}
 use Rattle.box_tree.proofs.PlacedLemmas.{seen_at}
 use Rattle.box_tree.proofs.ContainingLemmas.{standing, label-seen, held_by, unheld}
-use Rattle.spaces.specs.Spaces.{standing_at, local_point}
+use Rattle.spaces.specs.Spaces.{local_point}
 use Rattle.spaces.proofs.SuitedLemmas.{suited-seen}
 use Rattle.scroll_clip.specs.Curves.{padding_curve, HasCurvesInRange}
 use Rattle.scroll_clip.specs.Clips.{port_clip, curve_by, clipping_curve, clip_set_by, clip_of, clip_holds, lets_in, inside_clips}

@@ -8,11 +8,12 @@ use Rattle.affine.specs.Point.{local_point as point_in}
 use Rattle.box_tree.specs.declared.edit.Edit.{Edit}
 use Rattle.box_tree.specs.Forest.{Label, Placed}
 use Rattle.box_tree.specs.Contents.{Contents, placed_of}
-use Rattle.box_tree.specs.Containing.{Standing, parent_of, sought, may_hold, holders_among, containing_block_chain}
+use Rattle.box_tree.specs.Containing.{Standing, parent_of, sought, may_hold, holders_among, containing_block_chain, standing_at}
 use Rattle.box_tree.specs.Edited.{edited}
-use Rattle.spaces.specs.Frame.{IsFaultless, IsOutside}
-use Rattle.spaces.specs.Spaces.{standing_at, fine_point, space}
-use Rattle.spaces.proofs.FrameLemmas.{standing_of, IsInRest, outside-in_rest}
+use Rattle.box_tree.specs.Frame.{IsFaultless, IsOutside}
+use Rattle.spaces.specs.Spaces.{fine_point, space}
+use Rattle.box_tree.proofs.RestLemmas.{standing_of}
+use Rattle.spaces.proofs.FrameLemmas.{IsInRest, outside-in_rest}
 use Rattle.scroll_clip.specs.Clips.{clip_set_by, clip_holds, lets_in, inside_clips}
 
 -- two tests, each equal

@@ -12,9 +12,9 @@ use Rattle.box_tree.specs.declared.piece.Piece.{Piece}
 use Rattle.box_tree.specs.Forest.{Label}
 use Rattle.box_tree.specs.Contents.{Contents, placed_of}
 use Rattle.box_tree.specs.Used.{is_clipping}
-use Rattle.box_tree.specs.Containing.{Standing, parent_of, containing_block_chain}
+use Rattle.box_tree.specs.Containing.{Standing, parent_of, containing_block_chain, standing_at}
 use Rattle.spaces.specs.declared.space.FinePoint.{FinePoint}
-use Rattle.spaces.specs.Spaces.{standing_at, local_point}
+use Rattle.spaces.specs.Spaces.{local_point}
 use Rattle.scroll_clip.specs.Curves.{padding_curve, port_curve}
 
 -- the viewport that a form gives (SVG 2, 8.2), as a clip (SVG 2, 3.8)

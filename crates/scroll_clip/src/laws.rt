@@ -3,7 +3,7 @@ ghost use Rattle.std.specs.Prelude.{◌≡◌, ℕ, ℤ};
 ghost use Rattle.box_tree.specs.declared.edit.Edit.{Edit};
 ghost use Rattle.box_tree.specs.Contents.{Contents};
 ghost use Rattle.box_tree.specs.Edited.{edited};
-ghost use Rattle.spaces.specs.Frame.{IsFaultless, IsOutside};
+ghost use Rattle.box_tree.specs.Frame.{IsFaultless, IsOutside};
 ghost use Rattle.scroll_clip.specs.Clips.{inside_clips};
 
 /// An edit of a node leaves the clips of each node outside of it, which is neither the edited node nor below it, as they were

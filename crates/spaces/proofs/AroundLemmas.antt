@@ -15,7 +15,7 @@ use Rattle.box_tree.specs.declared.node.Node.{Node}
 use Rattle.box_tree.specs.declared.viewport.Viewport.{Viewport}
 use Rattle.box_tree.specs.Forest.{Label, Placed}
 use Rattle.box_tree.specs.Contents.{Contents, node_of, placed_of, ancestors_of, IsValid}
-use Rattle.box_tree.specs.Containing.{Standing, parent_of, sought, sought_as, sought_at, may_hold, outermost, holders_among, containing_block_chain}
+use Rattle.box_tree.specs.Containing.{Standing, parent_of, sought, sought_as, sought_at, may_hold, outermost, holders_among, containing_block_chain, standing_at}
 use Rattle.box_tree.specs.Edited.{ancestors_below}
 use Rattle.box_tree.specs.Kept.{label_of}
 use Rattle.box_tree.specs.Suits.{is_text}
@@ -28,7 +28,7 @@ use Rattle.spaces.specs.declared.table.entry.Entry.{Entry}
 use Rattle.spaces.specs.Around.{wanted_at, wanted_as, wanted_by, holds, outer_holder, place_among, place_in, is_bounded_by, IsAround}
 use Rattle.spaces.specs.Bound.{is_within_bound, partial_products_along, is_bounded_at}
 use Rattle.spaces.specs.Checked.{checked_products}
-use Rattle.spaces.specs.Spaces.{is_laid_out, shows, has_space, outer_space, own_factors, inner_factors, holder_factors, space_along, standing_at, space_of, space}
+use Rattle.spaces.specs.Spaces.{is_laid_out, shows, has_space, outer_space, own_factors, inner_factors, holder_factors, space_along, space_of, space}
 use Rattle.spaces.specs.Table.{entry_at}
 use Rattle.spaces.specs.Values.{values_along, values_below}
 use Rattle.spaces.proofs.CheckedLemmas.{both, shown-where_space, space-where_shown}

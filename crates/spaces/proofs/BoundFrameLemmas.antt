@@ -7,7 +7,7 @@ use Rattle.std.proofs.lemmas.Bool.Decides.{nat_tests}
 use Rattle.box_tree.specs.declared.edit.Edit.{Edit}
 use Rattle.box_tree.specs.declared.edit.Edit.TheVariants.{Add, Remove, Move, Place, Restyle, Reshape, Scroll, Resize, ScrollView}
 use Rattle.box_tree.specs.declared.viewport.Viewport.{Viewport}
-use Rattle.box_tree.specs.Containing.{Standing}
+use Rattle.box_tree.specs.Containing.{Standing, standing_at}
 use Rattle.box_tree.specs.Forest.{Label, Forest, End, Grow, ids_in, occurrences, Placed, EachNode}
 use Rattle.box_tree.specs.Contents.{Contents, placed_of, tree_of, IsValid}
 use Rattle.box_tree.specs.Edited.{edited}
@@ -18,11 +18,11 @@ use Rattle.box_tree.proofs.PlacedLemmas.{AreAtPlaces, page-at_places, found-at_p
 use Rattle.box_tree.proofs.SubtreeLemmas.{is_among-ids_in, placed-at_places}
 use Rattle.spaces.specs.Around.{is_bounded_by}
 use Rattle.spaces.specs.Bound.{is_bounded_at, are_bounded, is_bounded}
-use Rattle.spaces.specs.Frame.{edited_node, IsFaultless, StandsApart, IsOutside}
-use Rattle.spaces.specs.Spaces.{standing_at}
+use Rattle.box_tree.specs.Frame.{edited_node, IsFaultless, StandsApart, IsOutside}
 use Rattle.spaces.specs.Table.{is_bounded_from, is_bounded_in, renewed_node}
 use Rattle.spaces.proofs.CheckedLemmas.{IsBoundedBelow, each-bounded, bounded-placed}
-use Rattle.spaces.proofs.FrameLemmas.{standing_of, outside-in_rest, outside-before}
+use Rattle.box_tree.proofs.RestLemmas.{standing_of, outside-before}
+use Rattle.spaces.proofs.FrameLemmas.{outside-in_rest}
 
 -- trees of which each node is within the bound
 all-bounded : (viewport : Viewport) (above : List Label) (f : Forest) → EachNode (IsBoundedBelow viewport) above f → are_bounded viewport above f ≡ true

@@ -8,11 +8,11 @@ use Rattle.affine.specs.declared.map.Parts.{Parts}
 use Rattle.box_tree.specs.declared.viewport.Viewport.{Viewport}
 use Rattle.box_tree.specs.Forest.{Label, Forest, End, Grow, Placed, EachNode}
 use Rattle.box_tree.specs.Contents.{Contents, placed_of, IsValid}
-use Rattle.box_tree.specs.Containing.{Standing, parent_of, sought, may_hold, outermost, holders_among, containing_block_chain}
+use Rattle.box_tree.specs.Containing.{Standing, parent_of, sought, may_hold, outermost, holders_among, containing_block_chain, standing_at}
 use Rattle.box_tree.proofs.MoveLemmas.{each-placed}
 use Rattle.box_tree.proofs.PlacedLemmas.{AreAtPlaces, page-at_places}
 use Rattle.box_tree.proofs.ContainingLemmas.{AreAncestors, are_ancestors}
-use Rattle.spaces.specs.Spaces.{is_laid_out, shows, has_space, outer_space, space_factors, space_along, standing_at, space_of, space}
+use Rattle.spaces.specs.Spaces.{is_laid_out, shows, has_space, outer_space, space_factors, space_along, space_of, space}
 use Rattle.spaces.specs.Bound.{is_within_bound, partial_products_along, partial_products, is_bounded_at, are_bounded, is_bounded}
 use Rattle.spaces.specs.Checked.{checked_products, checked_along, checked_at, checked_space, has_space_at, are_checked}
 use Rattle.spaces.proofs.ProductLemmas.{IsChecked, checked-all, checked-some, checked-nothing}

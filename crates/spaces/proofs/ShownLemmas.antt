@@ -10,7 +10,8 @@ use Rattle.box_tree.specs.Edited.{ancestors_below}
 use Rattle.box_tree.specs.Kept.{label_of}
 use Rattle.box_tree.proofs.PlacedLemmas.{seen_at}
 use Rattle.box_tree.proofs.ContainingLemmas.{standing, label-seen, ancestors-seen, above-seen}
-use Rattle.spaces.specs.Spaces.{is_laid_out, shows, has_space, standing_at}
+use Rattle.box_tree.specs.Containing.{standing_at}
+use Rattle.spaces.specs.Spaces.{is_laid_out, shows, has_space}
 use Rattle.spaces.specs.Checked.{has_space_at, is_shown}
 
 module _ (page : Contents) (valid : IsValid page) (id : ℕ) (node : Node) (seen : node_of page id ≡ Some node) where

@@ -11,14 +11,14 @@ use Rattle.box_tree.specs.declared.containing.Holder.{Holder}
 use Rattle.box_tree.specs.declared.containing.Holder.TheVariants.{Node as HolderNode}
 use Rattle.box_tree.specs.Forest.{Label, Placed}
 use Rattle.box_tree.specs.Contents.{Contents, node_at, node_of, placed_of, has_id, ancestor_count, IsSpotInRange, IsScrolled, IsValid, IsSuited}
-use Rattle.box_tree.specs.Containing.{Standing, parent_of, containing_block}
+use Rattle.box_tree.specs.Containing.{Standing, parent_of, containing_block, standing_at}
 use Rattle.box_tree.specs.Kept.{label_of}
 use Rattle.box_tree.proofs.ForestLemmas.{placed_in-absent}
 use Rattle.box_tree.proofs.PutLemmas.{given-absent}
 use Rattle.box_tree.proofs.MoveLemmas.{each-placed}
 use Rattle.box_tree.proofs.PlacedLemmas.{seen_at}
 use Rattle.box_tree.proofs.ContainingLemmas.{standing, label-seen, parent-seen, held_by, unheld}
-use Rattle.spaces.specs.Spaces.{inner_factors, own_factors, outer_space, standing_at}
+use Rattle.spaces.specs.Spaces.{inner_factors, own_factors, outer_space}
 use Rattle.spaces.specs.Checked.{checked_products, checked_along, checked_at, checked_space, inner_factors_of, own_factors_of}
 use Rattle.spaces.specs.Sizes.{HasNumbersInRange}
 use Rattle.spaces.proofs.ProductLemmas.{checked-append}

@@ -11,7 +11,7 @@ use Rattle.box_tree.specs.declared.edit.Edit.TheVariants.{Add, Remove, Move, Pla
 use Rattle.box_tree.specs.declared.kind.Kind.{Kind}
 use Rattle.box_tree.specs.Forest.{Label, Forest, End, Grow, node_count, occurrences, Placed, placed_in}
 use Rattle.box_tree.specs.Contents.{Contents, placed_of, tree_of, has_id, new_label, empty_page, IsValid}
-use Rattle.box_tree.specs.Containing.{containing_block_chain}
+use Rattle.box_tree.specs.Containing.{containing_block_chain, standing_at}
 use Rattle.box_tree.specs.Edited.{put_in, put_below, taken_out, moved, relabelled, laid_out, restyled, reshaped, scrolled_node, edited}
 use Rattle.box_tree.specs.Planned.{is_among}
 use Rattle.box_tree.proofs.AddLemmas.{may_add, once_there}
@@ -23,11 +23,12 @@ use Rattle.box_tree.proofs.PlacedLemmas.{id-placed_in, found-at_places}
 use Rattle.box_tree.proofs.SubtreeLemmas.{is_among-ids_in, placed-at_places}
 use Rattle.box_tree.proofs.TakenLemmas.{place_without, placed_in-taken_out, occurrences-parted}
 use Rattle.spaces.specs.declared.table.entry.Entry.{Entry}
-use Rattle.spaces.specs.Frame.{edited_node, IsFaultless, IsOutside}
-use Rattle.spaces.specs.Spaces.{is_laid_out, shows, standing_at, space_along, space_of, space}
+use Rattle.box_tree.specs.Frame.{edited_node, IsFaultless, IsOutside}
+use Rattle.spaces.specs.Spaces.{is_laid_out, shows, space_along, space_of, space}
 use Rattle.spaces.specs.Values.{values_below, values}
 use Rattle.spaces.specs.Table.{entry_at, entry_placed, entry_of, entry_under, is_in_subtree, new_entry, renewed_entry, applied, renewed_node, removed_ids, IsTableOf, IsTableOutside}
-use Rattle.spaces.proofs.FrameLemmas.{outside-after, entry-outside, table-outside, table-whole}
+use Rattle.box_tree.proofs.RestLemmas.{outside-after}
+use Rattle.spaces.proofs.FrameLemmas.{entry-outside, table-outside, table-whole}
 
 -- the kind of the node of an id in trees
 abbrev kind_at : Forest → ℕ → Option Kind

@@ -6,13 +6,13 @@ use Rattle.std.specs.Option.{option_map_or, option_and_then}
 use Rattle.box_tree.specs.declared.node.Node.{Node}
 use Rattle.box_tree.specs.declared.viewport.Viewport.{Viewport}
 use Rattle.box_tree.specs.Kept.{label_of}
-use Rattle.box_tree.specs.Containing.{Standing}
+use Rattle.box_tree.specs.Containing.{Standing, standing_at}
 use Rattle.box_tree.specs.Forest.{Label, Forest, End, Grow, roots_of, Placed, placed_in}
 use Rattle.box_tree.specs.Contents.{Contents, node_of, placed_of, has_id, ancestor_count, IsValid}
 use Rattle.box_tree.proofs.ForestLemmas.{placed_in-head}
 use Rattle.box_tree.proofs.PlacedLemmas.{trees_from, trees_from-all, depth-placed_in, IsChildAt}
 use Rattle.box_tree.proofs.SubtreeLemmas.{at_place, place, children_is, the_child}
-use Rattle.spaces.specs.Spaces.{disables, is_laid_out, shows, has_space, standing_at}
+use Rattle.spaces.specs.Spaces.{disables, is_laid_out, shows, has_space}
 use Rattle.spaces.specs.Checked.{checked_at, checked_space, is_checked_at, are_checked, is_checked_from, is_shown}
 
 -- whether no product on the way to the nodes below a node passes the bound, from one of its children on

@@ -17,7 +17,8 @@ use Rattle.box_tree.proofs.SubtreeLemmas.{at_place, place, children_is, the_chil
 use Rattle.spaces.specs.declared.table.entry.Entry.{Entry}
 use Rattle.spaces.specs.Around.{is_bounded_by, written, written_from}
 use Rattle.spaces.specs.Bound.{is_bounded_at, are_bounded}
-use Rattle.spaces.specs.Spaces.{is_laid_out, standing_at}
+use Rattle.box_tree.specs.Containing.{standing_at}
+use Rattle.spaces.specs.Spaces.{is_laid_out}
 use Rattle.spaces.specs.Table.{entry_at, entry_placed, new_entry, is_bounded_from}
 use Rattle.spaces.proofs.WalkLemmas.{and-false}
 

@@ -12,13 +12,13 @@ use Rattle.computed_style.specs.declared.style.Position.{Position}
 use Rattle.computed_style.specs.declared.style.Position.TheVariants.{Static, Relative, Absolute, Fixed}
 use Rattle.box_tree.specs.Forest.{Label, Forest, End, Grow}
 use Rattle.box_tree.specs.Contents.{Contents, placed_of, ancestors_of, tree_of}
-use Rattle.box_tree.specs.Containing.{parent_of}
+use Rattle.box_tree.specs.Containing.{parent_of, standing_at}
 use Rattle.box_tree.specs.Used.{is_block_container, is_positioned, is_transformed}
 use Rattle.spaces.specs.declared.table.around.Around.{Around}
 use Rattle.spaces.specs.declared.table.around.Wanted.{Wanted}
 use Rattle.spaces.specs.declared.table.around.Wanted.TheVariants.{Container, Positioned, Transformed, Parent}
 use Rattle.spaces.specs.declared.table.entry.Entry.{Entry}
-use Rattle.spaces.specs.Spaces.{is_laid_out, shows, inner_factors, outer_space, space_of, standing_at}
+use Rattle.spaces.specs.Spaces.{is_laid_out, shows, inner_factors, outer_space, space_of}
 use Rattle.spaces.specs.Values.{values_along}
 use Rattle.spaces.specs.Bound.{is_bounded_at}
 use Rattle.spaces.specs.Checked.{checked_products}

@@ -11,8 +11,8 @@ use Rattle.view_boxes.specs.Views.{IsViewMap}
 use Rattle.box_tree.specs.Forest.{Label, Forest, End, Grow}
 use Rattle.box_tree.specs.Used.{makes_viewport}
 use Rattle.box_tree.specs.Contents.{Contents, placed_of}
-use Rattle.box_tree.specs.Containing.{Standing, parent_of, sought, outermost, containing_block_chain}
-use Rattle.spaces.specs.Spaces.{has_space, shows, viewport_width, viewport_height, port_of, outer_space, own_factors, inner_factors, space_factors, standing_at}
+use Rattle.box_tree.specs.Containing.{Standing, parent_of, sought, outermost, containing_block_chain, standing_at}
+use Rattle.spaces.specs.Spaces.{has_space, shows, viewport_width, viewport_height, port_of, outer_space, own_factors, inner_factors, space_factors}
 use Rattle.spaces.specs.Bound.{is_within_bound}
 
 -- a map, where it is within the bound

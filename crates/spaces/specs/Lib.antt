@@ -1,7 +1,6 @@
 pub mod Around
 pub mod Bound
 pub mod Checked
-pub mod Frame
 pub mod Sizes
 pub mod Spaces
 pub mod Table

@@ -177,10 +177,6 @@ abbrev pub space_along : Viewport → Standing → List Standing → Parts
 space_along viewport n [] = fold product (outer_space viewport (outermost (sought n.label))) (space_factors None n)
 space_along viewport n (holder ∷ holders) = fold product (space_along viewport holder holders) (space_factors (Some holder) n)
 
--- a node with its ancestors, by its place
-abbrev pub standing_at : Placed → Standing
-standing_at p = record { label = p.label; above = p.above }
-
 -- the space of a node with its ancestors, where it has one
 abbrev pub space_of : Viewport → Standing → Option Parts
 space_of viewport n = if has_space n then Some (space_along viewport n (containing_block_chain n)) else None

@@ -9,11 +9,11 @@ use Rattle.box_tree.specs.declared.edit.Edit.TheVariants.{Add, Remove, Move, Pla
 use Rattle.box_tree.specs.declared.viewport.Viewport.{Viewport}
 use Rattle.box_tree.specs.Forest.{Forest, End, Grow, ids_in, Placed}
 use Rattle.box_tree.specs.Contents.{Contents, placed_of, tree_of}
-use Rattle.box_tree.specs.Containing.{Standing}
+use Rattle.box_tree.specs.Containing.{Standing, standing_at}
 use Rattle.box_tree.specs.Planned.{is_among}
 use Rattle.spaces.specs.declared.table.entry.Entry.{Entry}
-use Rattle.spaces.specs.Frame.{edited_node}
-use Rattle.spaces.specs.Spaces.{is_laid_out, space_of, standing_at}
+use Rattle.box_tree.specs.Frame.{edited_node}
+use Rattle.spaces.specs.Spaces.{is_laid_out, space_of}
 use Rattle.spaces.specs.Values.{values_below}
 use Rattle.spaces.specs.Bound.{are_bounded, is_bounded}
 

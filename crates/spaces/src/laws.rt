@@ -4,7 +4,7 @@ ghost use Rattle.box_tree.specs.declared.edit.Edit.{Edit};
 ghost use Rattle.std.specs.Option.{option_map, option_and_then};
 ghost use Rattle.box_tree.specs.Contents.{Contents, empty_page, IsValid};
 ghost use Rattle.box_tree.specs.Edited.{edited};
-ghost use Rattle.spaces.specs.Frame.{edited_node, IsFaultless, StandsApart, IsOutside};
+ghost use Rattle.box_tree.specs.Frame.{edited_node, IsFaultless, StandsApart, IsOutside};
 ghost use Rattle.spaces.specs.declared.table.entry.Entry.{Entry};
 ghost use Rattle.spaces.specs.Spaces.{space};
 ghost use Rattle.spaces.specs.Bound.{is_bounded};

@@ -8,7 +8,8 @@ ghost use Rattle.box_tree.specs.Suits.{is_text as names_text};
 ghost use Rattle.computed_style.specs.Inheritance.{computed};
 ghost use Rattle.spaces.specs.Around.{wanted_at, wanted_as, wanted_by, holds, outer_holder, place_in, is_bounded_by, IsAround};
 ghost use Rattle.spaces.specs.Sizes.{HasNumbersInRange};
-ghost use Rattle.spaces.specs.Spaces.{is_laid_out as laid_out_kind, shows as shows_label, outer_space, space as space_at, standing_at};
+ghost use Rattle.box_tree.specs.Containing.{standing_at};
+ghost use Rattle.spaces.specs.Spaces.{is_laid_out as laid_out_kind, shows as shows_label, outer_space, space as space_at};
 ghost use Rattle.spaces.specs.Table.{entry_at};
 
 use crate::checked::{find, inner, own};

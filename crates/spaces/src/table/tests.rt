@@ -1,7 +1,7 @@
 ghost use Rattle.std.specs.Prelude.{◌≡◌, ◌<◌, [], IfOk, OnOk};
 ghost use Rattle.box_tree.specs.Contents.{Contents};
 ghost use Rattle.box_tree.specs.Edited.{edited};
-ghost use Rattle.spaces.specs.Frame.{IsFaultless};
+ghost use Rattle.box_tree.specs.Frame.{IsFaultless};
 ghost use Rattle.spaces.specs.Table.{renewed_node, removed_ids, IsTableOf};
 
 use super::*;

@@ -1,5 +1,6 @@
 -- The trees without the edited node stay as they are.
-use Rattle.spaces.proofs.FrameLemmas.{space-outside, values-outside, values-viewed, outside-after}
+use Rattle.box_tree.proofs.RestLemmas.{outside-after}
+use Rattle.spaces.proofs.FrameLemmas.{space-outside, values-outside, values-viewed}
 use Rattle.spaces.proofs.laws.frame_spaces.Goals as goal
 
 pub returns-clause-space : goal.returns-clause-space
