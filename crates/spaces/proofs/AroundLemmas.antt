@@ -7,25 +7,21 @@ use Rattle.affine.specs.declared.map.Parts.{Parts}
 use Rattle.computed_style.specs.declared.inherited.Inherited.{Inherited}
 use Rattle.computed_style.specs.Inheritance.{computed}
 use Rattle.box_tree.specs.declared.containing.Holder.{Holder}
-use Rattle.box_tree.specs.declared.kind.Kind.{Kind}
-use Rattle.box_tree.specs.declared.kind.Kind.TheVariants.{Block, Inline, InlineBlock, Image, Svg, Text, Map, Area, Group, Shape, Inner}
-use Rattle.computed_style.specs.declared.style.Position.{Position}
-use Rattle.computed_style.specs.declared.style.Position.TheVariants.{Static, Relative, Absolute, Fixed}
 use Rattle.box_tree.specs.declared.node.Node.{Node}
 use Rattle.box_tree.specs.declared.viewport.Viewport.{Viewport}
 use Rattle.box_tree.specs.Forest.{Label, Placed}
 use Rattle.box_tree.specs.Contents.{Contents, node_of, placed_of, ancestors_of, IsValid}
-use Rattle.box_tree.specs.Containing.{Standing, parent_of, sought, sought_as, sought_at, may_hold, outermost, holders_among, containing_block_chain, standing_at}
+use Rattle.box_tree.specs.Containing.{Standing, parent_of, sought, may_hold, outermost, holders_among, containing_block_chain, standing_at}
 use Rattle.box_tree.specs.Edited.{ancestors_below}
 use Rattle.box_tree.specs.Kept.{label_of}
 use Rattle.box_tree.specs.Suits.{is_text}
 use Rattle.box_tree.proofs.PlacedLemmas.{seen_at}
 use Rattle.box_tree.proofs.ContainingLemmas.{standing, label-seen, parent-seen, ancestors-seen}
 use Rattle.spaces.specs.declared.table.around.Around.{Around}
-use Rattle.spaces.specs.declared.table.around.Wanted.{Wanted}
-use Rattle.spaces.specs.declared.table.around.Wanted.TheVariants.{Container, Positioned, Transformed, Parent}
+use Rattle.box_tree.specs.declared.containing.Wanted.{Wanted}
+use Rattle.box_tree.specs.declared.containing.Wanted.TheVariants.{Container, Positioned, Transformed, Parent}
 use Rattle.spaces.specs.declared.table.entry.Entry.{Entry}
-use Rattle.spaces.specs.Around.{wanted_at, wanted_as, wanted_by, holds, outer_holder, place_among, place_in, is_bounded_by, IsAround}
+use Rattle.spaces.specs.Around.{place_among, place_in, is_bounded_by, IsAround}
 use Rattle.spaces.specs.Bound.{is_within_bound, partial_products_along, is_bounded_at}
 use Rattle.spaces.specs.Checked.{checked_products}
 use Rattle.spaces.specs.Spaces.{is_laid_out, shows, has_space, outer_space, own_factors, inner_factors, holder_factors, space_along, space_of, space}
@@ -35,61 +31,20 @@ use Rattle.spaces.proofs.CheckedLemmas.{both, shown-where_space, space-where_sho
 use Rattle.spaces.proofs.ProductLemmas.{checked-append, checked-fold}
 use Rattle.spaces.proofs.ValueLemmas.{values_along-cons}
 
--- what is wanted is what is sought
-holds-at : (position : Position) (parent : Option Label) (n : Label) → holds (wanted_at position) parent n ≡ may_hold (sought_at position) parent n
-holds-at Static parent n = refl
-holds-at Relative parent n = refl
-holds-at Absolute parent n = refl
-holds-at Fixed parent n = refl
-
-holds-as : (kind : Kind) (position : Position) (parent : Option Label) (n : Label) → holds (wanted_as kind position) parent n ≡ may_hold (sought_as kind position) parent n
-holds-as Block position parent n = holds-at position parent n
-holds-as Inline position parent n = holds-at position parent n
-holds-as InlineBlock position parent n = holds-at position parent n
-holds-as Image position parent n = holds-at position parent n
-holds-as Svg position parent n = holds-at position parent n
-holds-as Text position parent n = refl
-holds-as Map position parent n = refl
-holds-as Area position parent n = refl
-holds-as Group position parent n = refl
-holds-as Shape position parent n = refl
-holds-as Inner position parent n = refl
-
-outer-at : (position : Position) → outer_holder (wanted_at position) ≡ outermost (sought_at position)
-outer-at Static = refl
-outer-at Relative = refl
-outer-at Absolute = refl
-outer-at Fixed = refl
-
-outer-as : (kind : Kind) (position : Position) → outer_holder (wanted_as kind position) ≡ outermost (sought_as kind position)
-outer-as Block position = outer-at position
-outer-as Inline position = outer-at position
-outer-as InlineBlock position = outer-at position
-outer-as Image position = outer-at position
-outer-as Svg position = outer-at position
-outer-as Text position = refl
-outer-as Map position = refl
-outer-as Area position = refl
-outer-as Group position = refl
-outer-as Shape position = refl
-outer-as Inner position = refl
-
 -- where the nearest of these containing blocks places what it holds, and without one what is outermost
 abbrev place_after : Viewport → Holder → List Standing → Option Parts
 place_after viewport outer [] = Some (outer_space viewport outer)
 place_after viewport outer (holder ∷ holders) = checked_products (Some (space_along viewport holder holders)) (holder_factors (Some holder))
 
 -- among ancestors that show what is in them, that is where the containing block places it
-place-is : (viewport : Viewport) (seeker : Label) (above : List Label) → list_all shows above ≡ true → place_among viewport (wanted_by seeker) above ≡ place_after viewport (outermost (sought seeker)) (holders_among (sought seeker) above)
-place-is viewport seeker [] shown = ap (λ (outer : Holder). Some (outer_space viewport outer)) (outer-as seeker.kind seeker.style.position)
-place-is viewport seeker (n ∷ above) shown =
-    ap (λ (b : Bool). if b then checked_products (space_of viewport n') (inner_factors (parent_of above) n) else place_among viewport (wanted_by seeker) above) (holds-as seeker.kind seeker.style.position (parent_of above) n)
-    ∙ by_test (place-is viewport seeker above (both _ _ shown).1) (may_hold (sought seeker) (parent_of above) n)
+place-is : (viewport : Viewport) (seeker : Label) (above : List Label) → list_all shows above ≡ true → place_among viewport (sought seeker) above ≡ place_after viewport (outermost (sought seeker)) (holders_among (sought seeker) above)
+place-is viewport seeker [] shown = refl
+place-is viewport seeker (n ∷ above) shown = by_test (place-is viewport seeker above (both _ _ shown).1) (may_hold (sought seeker) (parent_of above) n)
   where
     n' : Standing
     n' = record { label = n; above = above }
 
-    by_test : place_among viewport (wanted_by seeker) above ≡ place_after viewport (outermost (sought seeker)) (holders_among (sought seeker) above) → (is : Bool) → (if is then checked_products (space_of viewport n') (inner_factors (parent_of above) n) else place_among viewport (wanted_by seeker) above) ≡ place_after viewport (outermost (sought seeker)) (if is then n' ∷ holders_among (sought n) above else holders_among (sought seeker) above)
+    by_test : place_among viewport (sought seeker) above ≡ place_after viewport (outermost (sought seeker)) (holders_among (sought seeker) above) → (is : Bool) → (if is then checked_products (space_of viewport n') (inner_factors (parent_of above) n) else place_among viewport (sought seeker) above) ≡ place_after viewport (outermost (sought seeker)) (if is then n' ∷ holders_among (sought n) above else holders_among (sought seeker) above)
     by_test beyond true =
         ap (λ (b : Bool). checked_products (if b then Some (space_along viewport n' (containing_block_chain n')) else None) (inner_factors (parent_of above) n)) (space-where_shown n above shown)
     by_test beyond false = beyond
@@ -102,7 +57,7 @@ own-checked viewport n (holder ∷ holders) =
     ∙ checked-fold (space_along viewport holder holders) _
 
 -- the space of a node that has one, from where it is placed
-space-placed : (viewport : Viewport) (n : Standing) → has_space n ≡ true → checked_products (place_among viewport (wanted_by n.label) n.above) (own_factors (parent_of n.above) n.label) ≡ (if is_bounded_at viewport n then space_of viewport n else None)
+space-placed : (viewport : Viewport) (n : Standing) → has_space n ≡ true → checked_products (place_among viewport (sought n.label) n.above) (own_factors (parent_of n.above) n.label) ≡ (if is_bounded_at viewport n then space_of viewport n else None)
 space-placed viewport n has =
     ap (λ (o : Option Parts). checked_products o (own_factors (parent_of n.above) n.label)) (place-is viewport n.label n.above (shown-where_space n has))
     ∙ own-checked viewport n (containing_block_chain n)
@@ -175,25 +130,25 @@ module _ (page : Contents) (valid : IsValid page) (id : ℕ) (node : Node) (seen
 
     -- the space, by the node as a reader sees it
     space-shown : has_space n ≡ true → (result : Option Parts) →
-        result ≡ checked_products (place_in around (wanted_by (label_of node))) (own_factors (option_map label_of (node_of page node.parent)) (label_of node)) →
+        result ≡ checked_products (place_in around (sought (label_of node))) (own_factors (option_map label_of (node_of page node.parent)) (label_of node)) →
         IsBoundedSpace (is_bounded_by page id) result (space page id)
     space-shown has result result_is = bounded_space (is_bounded_by page id) result (space page id)
         (result_is
-        ∙ ap (λ (l : Label). checked_products (place_in around (wanted_by l)) (own_factors (option_map label_of (node_of page node.parent)) l)) (label-seen page valid id node seen)
-        ∙ ap (λ (o : Option Label). checked_products (place_in around (wanted_by n.label)) (own_factors o n.label)) (parent-seen page valid id node seen)
-        ∙ ap (λ (o : Option Parts). checked_products o (own_factors (parent_of n.above) n.label)) (is-here.places (wanted_by n.label))
+        ∙ ap (λ (l : Label). checked_products (place_in around (sought l)) (own_factors (option_map label_of (node_of page node.parent)) l)) (label-seen page valid id node seen)
+        ∙ ap (λ (o : Option Label). checked_products (place_in around (sought n.label)) (own_factors o n.label)) (parent-seen page valid id node seen)
+        ∙ ap (λ (o : Option Parts). checked_products o (own_factors (parent_of n.above) n.label)) (is-here.places (sought n.label))
         ∙ space-placed page.viewport n has
         ∙ ap (λ (b : Bool). if b then space_of page.viewport n else None) (sym bounded-here)
         ∙ ap (λ (o : Option Parts). if is_bounded_by page id then o else None) (sym space-here))
         (ap is_some space-here ∙ ap (λ (b : Bool). is_some (if b then Some (space_along page.viewport n (containing_block_chain n)) else None)) has)
 
     -- the same from what calls answer
-    pub space-given : (is_laid_out node.kind && around.shown) ≡ true → (wanted : Wanted) → wanted ≡ wanted_by (label_of node) → (placed : Option Parts) → placed ≡ place_in around wanted → (parent : Option Node) → parent ≡ node_of page node.parent → (result : Option Parts) →
+    pub space-given : (is_laid_out node.kind && around.shown) ≡ true → (wanted : Wanted) → wanted ≡ sought (label_of node) → (placed : Option Parts) → placed ≡ place_in around wanted → (parent : Option Node) → parent ≡ node_of page node.parent → (result : Option Parts) →
         result ≡ checked_products placed (own_factors (option_map label_of parent) (label_of node)) → IsBoundedSpace (is_bounded_by page id) result (space page id)
     space-given has wanted wanted_is placed placed_is parent parent_is result result_is = space-shown (sym has-seen ∙ has) result
         (result_is
         ∙ ap (λ (o : Option Parts). checked_products o (own_factors (option_map label_of parent) (label_of node))) (placed_is ∙ ap (place_in around) wanted_is)
-        ∙ ap (λ (o : Option Node). checked_products (place_in around (wanted_by (label_of node))) (own_factors (option_map label_of o) (label_of node))) parent_is)
+        ∙ ap (λ (o : Option Node). checked_products (place_in around (sought (label_of node))) (own_factors (option_map label_of o) (label_of node))) parent_is)
 
     -- the values: a text takes those of its parent
     values-seen' : (if is_text node.kind then around.values else computed around.values node.style) ≡ values_below n.above n.label
@@ -226,13 +181,13 @@ module _ (page : Contents) (valid : IsValid page) (id : ℕ) (node : Node) (seen
 
     place-inside : (wanted : Wanted) (inner : Option Parts) →
         inner ≡ checked_products (space page id) (inner_factors (option_map label_of (node_of page node.parent)) (label_of node)) →
-        (if holds wanted (option_map label_of (node_of page node.parent)) (label_of node) then inner else place_in around wanted) ≡ place_among page.viewport wanted (ancestors_below page id)
+        (if may_hold wanted (option_map label_of (node_of page node.parent)) (label_of node) then inner else place_in around wanted) ≡ place_among page.viewport wanted (ancestors_below page id)
     place-inside wanted inner inner_is =
-        ap (λ (o : Option Parts). if holds wanted (option_map label_of (node_of page node.parent)) (label_of node) then o else place_in around wanted) inner_is
-        ∙ ap (λ (l : Label). if holds wanted (option_map label_of (node_of page node.parent)) l then checked_products (space page id) (inner_factors (option_map label_of (node_of page node.parent)) l) else place_in around wanted) (label-seen page valid id node seen)
-        ∙ ap (λ (o : Option Label). if holds wanted o n.label then checked_products (space page id) (inner_factors o n.label) else place_in around wanted) (parent-seen page valid id node seen)
-        ∙ ap (λ (o : Option Parts). if holds wanted (parent_of n.above) n.label then checked_products o (inner_factors (parent_of n.above) n.label) else place_in around wanted) space-here
-        ∙ ap (λ (o : Option Parts). if holds wanted (parent_of n.above) n.label then checked_products (space_of page.viewport n) (inner_factors (parent_of n.above) n.label) else o) (is-here.places wanted)
+        ap (λ (o : Option Parts). if may_hold wanted (option_map label_of (node_of page node.parent)) (label_of node) then o else place_in around wanted) inner_is
+        ∙ ap (λ (l : Label). if may_hold wanted (option_map label_of (node_of page node.parent)) l then checked_products (space page id) (inner_factors (option_map label_of (node_of page node.parent)) l) else place_in around wanted) (label-seen page valid id node seen)
+        ∙ ap (λ (o : Option Label). if may_hold wanted o n.label then checked_products (space page id) (inner_factors o n.label) else place_in around wanted) (parent-seen page valid id node seen)
+        ∙ ap (λ (o : Option Parts). if may_hold wanted (parent_of n.above) n.label then checked_products o (inner_factors (parent_of n.above) n.label) else place_in around wanted) space-here
+        ∙ ap (λ (o : Option Parts). if may_hold wanted (parent_of n.above) n.label then checked_products (space_of page.viewport n) (inner_factors (parent_of n.above) n.label) else o) (is-here.places wanted)
         ∙ sym (ap (place_among page.viewport wanted) below-here)
 
     -- all of it, from what calls answer
@@ -244,17 +199,17 @@ module _ (page : Contents) (valid : IsValid page) (id : ℕ) (node : Node) (seen
           ∙ ap (λ (o : Option Parts). checked_products o (inner_factors (option_map label_of parent) (label_of node))) own_is
           ∙ ap (λ (o : Option Node). checked_products (space page id) (inner_factors (option_map label_of o) (label_of node))) parent_is
 
-      place-given : (wanted : Wanted) (o : Option Parts) → o ≡ (if holds wanted (option_map label_of parent) (label_of node) then inner else place_in around wanted) → o ≡ place_among page.viewport wanted (ancestors_below page id)
+      place-given : (wanted : Wanted) (o : Option Parts) → o ≡ (if may_hold wanted (option_map label_of parent) (label_of node) then inner else place_in around wanted) → o ≡ place_among page.viewport wanted (ancestors_below page id)
       place-given wanted o o_is =
           o_is
-          ∙ ap (λ (p : Option Node). if holds wanted (option_map label_of p) (label_of node) then inner else place_in around wanted) parent_is
+          ∙ ap (λ (p : Option Node). if may_hold wanted (option_map label_of p) (label_of node) then inner else place_in around wanted) parent_is
           ∙ place-inside wanted inner inner-here
 
       pub around-inside : (inside : Around) → inside.shown ≡ (shows (label_of node) && around.shown) → inside.values ≡ computed around.values node.style →
-          inside.container ≡ (if holds Container (option_map label_of parent) (label_of node) then inner else place_in around Container) →
-          inside.positioned ≡ (if holds Positioned (option_map label_of parent) (label_of node) then inner else place_in around Positioned) →
-          inside.transformed ≡ (if holds Transformed (option_map label_of parent) (label_of node) then inner else place_in around Transformed) →
-          inside.parent ≡ (if holds Parent (option_map label_of parent) (label_of node) then inner else place_in around Parent) →
+          inside.container ≡ (if may_hold Container (option_map label_of parent) (label_of node) then inner else place_in around Container) →
+          inside.positioned ≡ (if may_hold Positioned (option_map label_of parent) (label_of node) then inner else place_in around Positioned) →
+          inside.transformed ≡ (if may_hold Transformed (option_map label_of parent) (label_of node) then inner else place_in around Transformed) →
+          inside.parent ≡ (if may_hold Parent (option_map label_of parent) (label_of node) then inner else place_in around Parent) →
           IsAround page.viewport (ancestors_below page id) inside
       around-inside inside shown_is values_is container_is positioned_is transformed_is parent_is' = record {
         shown = shown_is ∙ shown-inside;

@@ -9,7 +9,7 @@ use Rattle.affine.specs.declared.map.Parts.{Parts}
 use Rattle.box_tree.specs.declared.node.Node.{Node}
 use Rattle.box_tree.specs.Forest.{Label, Forest, End, Grow, roots_of, ids_in, occurrences, Placed, placed_in}
 use Rattle.box_tree.specs.Contents.{Contents, node_of, placed_of, ancestors_of, tree_of, has_id, IsValid, IsGiven}
-use Rattle.box_tree.specs.Containing.{Standing, parent_of, containing_block_chain, standing_at}
+use Rattle.box_tree.specs.Containing.{Standing, parent_of, may_hold, outermost, containing_block_chain, standing_at}
 use Rattle.box_tree.specs.Edited.{ancestors_below}
 use Rattle.box_tree.specs.Kept.{label_of}
 use Rattle.box_tree.specs.Planned.{is_among}
@@ -19,9 +19,9 @@ use Rattle.box_tree.proofs.PlacedLemmas.{AreAtPlaces, found-at_places, id-placed
 use Rattle.box_tree.proofs.SubtreeLemmas.{Head, Deeper, Beside, found_in, placed-at_places, is_among-ids_in}
 use Rattle.box_tree.proofs.TakenLemmas.{occurrences-parted}
 use Rattle.box_tree.proofs.ContainingLemmas.{AreAncestors, standing, label-seen, parent-seen, ancestors-seen, above-seen, stand-seen}
-use Rattle.spaces.specs.declared.table.around.Wanted.{Wanted}
+use Rattle.box_tree.specs.declared.containing.Wanted.{Wanted}
 use Rattle.spaces.specs.declared.table.entry.Entry.{Entry}
-use Rattle.spaces.specs.Around.{holds, outer_holder, place_among, written, written_from, AreEntered}
+use Rattle.spaces.specs.Around.{place_among, written, written_from, AreEntered}
 use Rattle.spaces.specs.Bound.{are_bounded, is_bounded}
 use Rattle.spaces.specs.Checked.{checked_products}
 use Rattle.spaces.specs.Spaces.{is_laid_out, shows, inner_factors, outer_space, space_of, space_along, space}
@@ -80,19 +80,19 @@ module _ (page : Contents) (valid : IsValid page) (id : ℕ) (node : Node) (seen
 
   -- one step up: the node holds what seeks this, or passes it on
   module _ (wanted : Wanted) where
-    place-here : place_among page.viewport wanted (ancestors_below page id) ≡ (if holds wanted (option_map label_of (node_of page node.parent)) (label_of node) then checked_products (space page id) (inner_factors (option_map label_of (node_of page node.parent)) (label_of node)) else place_among page.viewport wanted (ancestors_below page node.parent))
+    place-here : place_among page.viewport wanted (ancestors_below page id) ≡ (if may_hold wanted (option_map label_of (node_of page node.parent)) (label_of node) then checked_products (space page id) (inner_factors (option_map label_of (node_of page node.parent)) (label_of node)) else place_among page.viewport wanted (ancestors_below page node.parent))
     place-here =
         let n : Standing = standing page valid id node seen in
         ap (place_among page.viewport wanted) (ancestors-seen page valid id node seen)
-        ∙ ap (λ (o : Option Parts). if holds wanted (parent_of n.above) n.label then checked_products o (inner_factors (parent_of n.above) n.label) else place_among page.viewport wanted n.above) (sym (ap (option_and_then (λ p. space_of page.viewport (standing_at p))) found))
-        ∙ ap (λ (o : Option Label). if holds wanted o n.label then checked_products (space page id) (inner_factors o n.label) else place_among page.viewport wanted n.above) (sym (parent-seen page valid id node seen))
-        ∙ ap (λ (l : Label). if holds wanted (option_map label_of (node_of page node.parent)) l then checked_products (space page id) (inner_factors (option_map label_of (node_of page node.parent)) l) else place_among page.viewport wanted n.above) (sym (label-seen page valid id node seen))
-        ∙ ap (λ (above : List Label). if holds wanted (option_map label_of (node_of page node.parent)) (label_of node) then checked_products (space page id) (inner_factors (option_map label_of (node_of page node.parent)) (label_of node)) else place_among page.viewport wanted above) (sym (above-seen page valid id node seen))
+        ∙ ap (λ (o : Option Parts). if may_hold wanted (parent_of n.above) n.label then checked_products o (inner_factors (parent_of n.above) n.label) else place_among page.viewport wanted n.above) (sym (ap (option_and_then (λ p. space_of page.viewport (standing_at p))) found))
+        ∙ ap (λ (o : Option Label). if may_hold wanted o n.label then checked_products (space page id) (inner_factors o n.label) else place_among page.viewport wanted n.above) (sym (parent-seen page valid id node seen))
+        ∙ ap (λ (l : Label). if may_hold wanted (option_map label_of (node_of page node.parent)) l then checked_products (space page id) (inner_factors (option_map label_of (node_of page node.parent)) l) else place_among page.viewport wanted n.above) (sym (label-seen page valid id node seen))
+        ∙ ap (λ (above : List Label). if may_hold wanted (option_map label_of (node_of page node.parent)) (label_of node) then checked_products (space page id) (inner_factors (option_map label_of (node_of page node.parent)) (label_of node)) else place_among page.viewport wanted above) (sym (above-seen page valid id node seen))
 
-    pub place-holds : holds wanted (option_map label_of (node_of page node.parent)) (label_of node) ≡ true → checked_products (space page id) (inner_factors (option_map label_of (node_of page node.parent)) (label_of node)) ≡ place_among page.viewport wanted (ancestors_below page id)
+    pub place-holds : may_hold wanted (option_map label_of (node_of page node.parent)) (label_of node) ≡ true → checked_products (space page id) (inner_factors (option_map label_of (node_of page node.parent)) (label_of node)) ≡ place_among page.viewport wanted (ancestors_below page id)
     place-holds it = sym (place-here ∙ ap (λ (b : Bool). if b then checked_products (space page id) (inner_factors (option_map label_of (node_of page node.parent)) (label_of node)) else place_among page.viewport wanted (ancestors_below page node.parent)) it)
 
-    pub place-passes : holds wanted (option_map label_of (node_of page node.parent)) (label_of node) ≡ false → place_among page.viewport wanted (ancestors_below page node.parent) ≡ place_among page.viewport wanted (ancestors_below page id)
+    pub place-passes : may_hold wanted (option_map label_of (node_of page node.parent)) (label_of node) ≡ false → place_among page.viewport wanted (ancestors_below page node.parent) ≡ place_among page.viewport wanted (ancestors_below page id)
     place-passes it = sym (place-here ∙ ap (λ (b : Bool). if b then checked_products (space page id) (inner_factors (option_map label_of (node_of page node.parent)) (label_of node)) else place_among page.viewport wanted (ancestors_below page node.parent)) it)
 
   -- the space of a node whose entry stands in the table
@@ -150,7 +150,7 @@ module _ (page : Contents) (valid : IsValid page) (id : ℕ) (node : Node) (seen
       once = omega (arith, occurrences-parted page.tree [] id x (valid.distinct id), ap (λ (f : Forest). occurrences f x) tree-is, valid.distinct x)
 
 -- above the root nothing holds
-pub place-outermost : (page : Contents) (id : ℕ) (wanted : Wanted) → has_id page id ≡ false → Some (outer_space page.viewport (outer_holder wanted)) ≡ place_among page.viewport wanted (ancestors_below page id)
+pub place-outermost : (page : Contents) (id : ℕ) (wanted : Wanted) → has_id page id ≡ false → Some (outer_space page.viewport (outermost wanted)) ≡ place_among page.viewport wanted (ancestors_below page id)
 place-outermost page id wanted absent = sym (ap (place_among page.viewport wanted) (ancestors_below-absent page id absent))
 
 -- the ids of entries were given

@@ -1,33 +1,40 @@
 -- Each node that an edit doesn't take out is in the page after it, of the same kind; so the table of the page before, with the
 -- entries of the edited node and of all below it, is the table of the page after.
-use Rattle.std.proofs.Common.{◌≡◌, ℕ, zero, suc, ◌+◌, ◌<◌, ◌==◌, List, [], ◌∷◌, Option, Some, None, IsSome, is_some, Bool, true, false, if◌then◌else◌, refl, sym, ap, ◌∙◌, inl, inr, arith}
-use Rattle.std.specs.Prelude.{nat_lt, unwrap_or, ◌&&◌, ℤ}
+use Rattle.std.proofs.Common.{◌≡◌, ℕ, zero, suc, ◌+◌, ◌<◌, ◌==◌, List, [], ◌∷◌, Option, Some, None, IsSome, is_some, Bool, true, false, if◌then◌else◌, refl, sym, ap, subst, ◌∙◌, inl, inr, arith}
+use Rattle.std.specs.Prelude.{nat_lt, unwrap_or, ◌&&◌, ℤ, IfSome}
 use Rattle.std.specs.List.{list_all}
 use Rattle.std.specs.Option.{option_or, option_map, option_map_or, option_and_then}
 use Rattle.std.proofs.lemmas.Bool.{cases_lt, cases_eq, false≢true}
 use Rattle.std.proofs.lemmas.Bool.Decides.{nat_tests}
+use Rattle.std.proofs.lemmas.Int.{ints}
 use Rattle.box_tree.specs.declared.edit.Edit.{Edit}
 use Rattle.box_tree.specs.declared.edit.Edit.TheVariants.{Add, Remove, Move, Place, Restyle, Reshape, Scroll, Resize, ScrollView}
 use Rattle.box_tree.specs.declared.kind.Kind.{Kind}
 use Rattle.box_tree.specs.Forest.{Label, Forest, End, Grow, node_count, occurrences, Placed, placed_in}
-use Rattle.box_tree.specs.Contents.{Contents, placed_of, tree_of, has_id, new_label, empty_page, IsValid}
+use Rattle.box_tree.specs.Contents.{Contents, placed_of, tree_of, has_id, new_label, empty_page, IsValid, IsSuited}
 use Rattle.box_tree.specs.Containing.{containing_block_chain, standing_at}
 use Rattle.box_tree.specs.Edited.{put_in, put_below, taken_out, moved, relabelled, laid_out, restyled, reshaped, scrolled_node, edited}
 use Rattle.box_tree.specs.Planned.{is_among}
+use Rattle.box_tree.specs.Suits.{is_text}
 use Rattle.box_tree.proofs.AddLemmas.{may_add, once_there}
 use Rattle.box_tree.proofs.ForestLemmas.{single, if_map, or-none, placed_in-absent, placed_in-present, put_below-absent}
-use Rattle.box_tree.proofs.MoveLemmas.{may_move}
+use Rattle.box_tree.proofs.MoveLemmas.{may_move, each-placed}
 use Rattle.box_tree.proofs.PlanLemmas.{planted-below}
 use Rattle.box_tree.proofs.PutLemmas.{given-absent}
 use Rattle.box_tree.proofs.PlacedLemmas.{id-placed_in, found-at_places}
+use Rattle.box_tree.proofs.ContainingLemmas.{AreAncestors, are_ancestors}
 use Rattle.box_tree.proofs.SubtreeLemmas.{is_among-ids_in, placed-at_places}
 use Rattle.box_tree.proofs.TakenLemmas.{place_without, placed_in-taken_out, occurrences-parted}
-use Rattle.spaces.specs.declared.table.entry.Entry.{Entry}
 use Rattle.box_tree.specs.Frame.{edited_node, IsFaultless, IsOutside}
-use Rattle.spaces.specs.Spaces.{is_laid_out, shows, space_along, space_of, space}
-use Rattle.spaces.specs.Values.{values_below, values}
-use Rattle.spaces.specs.Table.{entry_at, entry_placed, entry_of, entry_under, is_in_subtree, new_entry, renewed_entry, applied, renewed_node, removed_ids, IsTableOf, IsTableOutside}
+use Rattle.affine.specs.declared.map.Parts.{Parts}
+use Rattle.computed_style.specs.declared.inherited.Inherited.{Inherited}
+use Rattle.computed_style.specs.Ranges.{IsSide}
+use Rattle.spaces.specs.declared.table.entry.Entry.{Entry}
+use Rattle.spaces.specs.Spaces.{is_laid_out, shows, space_along, space_of, space, local_point_in, local_point}
+use Rattle.spaces.specs.Values.{values_along, values_below, values}
+use Rattle.spaces.specs.Table.{entry_at, entry_placed, entry_of, entry_under, local_point_under, is_in_subtree, new_entry, renewed_entry, applied, renewed_node, removed_ids, IsTableOf, IsTableOutside}
 use Rattle.box_tree.proofs.RestLemmas.{outside-after}
+use Rattle.spaces.proofs.ValueLemmas.{values_along-cons, width-computed}
 use Rattle.spaces.proofs.FrameLemmas.{entry-outside, table-outside, table-whole}
 
 -- the kind of the node of an id in trees
@@ -306,6 +313,44 @@ entry-values page x some = by_place (placed_of page x) some
         by_kind : (b : Bool) → IsSome (if b then Some (entry_at page.viewport (standing_at p)) else None) → option_map (λ entry. entry.values) (if b then Some (entry_at page.viewport (standing_at p)) else None) ≡ Some (values_below p.above p.label)
         by_kind true is = refl
         by_kind false is = absurd cc
+
+-- the width of a stroke that these nodes of a page give is within its limits
+width-along : (page : Contents) (valid : IsValid page) (above : List Label) → AreAncestors page above → IsSide 26 (values_along above).stroke_width
+width-along page valid [] stand = (omega (arith, ints), omega (arith, ints))
+width-along page valid (n ∷ above) stand =
+    let suited = (each-placed IsSuited page.tree [] n.id _ valid.suited stand.0.found).0 in
+    subst (λ (v : Inherited). IsSide 26 v.stroke_width) (sym (values_along-cons n above))
+    (width-computed (values_along above) n.style suited.style_in_range.stroke_width (width-along page valid above stand.1))
+
+pub entry-width : (page : Contents) (id : ℕ) → IsValid page → IfSome (entry_of page id) (λ entry. IsSide 26 entry.values.stroke_width)
+entry-width page id valid = by_place (placed_of page id) refl
+  where
+    by_place : (o : Option Placed) → placed_of page id ≡ o → IfSome (option_and_then (entry_placed page.viewport) o) (λ entry. IsSide 26 entry.values.stroke_width)
+    by_place None found = tt
+    by_place (Some p) found = by_kind (is_laid_out p.label.kind) (is_text p.label.kind)
+      where
+        above : AreAncestors page p.above
+        above = are_ancestors page p.above id p valid found refl
+
+        here : AreAncestors page (p.label ∷ p.above)
+        here = (record { below = p.below; found = ap (placed_of page) (id-placed_in page.tree [] id p found) ∙ found }, above)
+
+        by_kind : (laid text : Bool) → IfSome {T = Entry} (if laid then Some (record { space = space_of page.viewport (standing_at p); values = if text then values_along p.above else values_along (p.label ∷ p.above) }) else None) (λ entry. IsSide 26 entry.values.stroke_width)
+        by_kind true true = width-along page valid p.above above
+        by_kind true false = width-along page valid (p.label ∷ p.above) here
+        by_kind false text = tt
+
+-- a local point by a table is that of the page
+pub entry-local_point : (table : List (Option Entry)) (page : Contents) (id : ℕ) (x y : ℤ) → IsTableOf table page → local_point_under table id x y ≡ local_point page id x y
+entry-local_point table page id x y is =
+    ap (λ (s : Option Parts). local_point_in s x y) (ap (option_and_then (λ entry. entry.space)) (is id) ∙ entry-space page id)
+
+pub entry-some : (table : List (Option Entry)) (id : ℕ) (x y : ℤ) → IsSome (local_point_under table id x y) → IsSome (entry_under table id)
+entry-some table id x y some = by_entry (entry_under table id) some
+  where
+    by_entry : (o : Option Entry) → IsSome (local_point_in (option_and_then (λ entry. entry.space) o) x y) → IsSome o
+    by_entry None some' = some'
+    by_entry (Some entry) some' = refl
 
 -- the entries of all nodes, put where there was none
 pub table-first : (page : Contents) (table new : List (Option Entry)) (change : List (ℕ × Entry)) → ((x : ℕ) → entry_under table x ≡ None) → ((x : ℕ) → new_entry change x ≡ renewed_entry page 0 x) →

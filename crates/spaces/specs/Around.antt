@@ -4,19 +4,12 @@ use Rattle.std.specs.List.{list_all, AllByRecursion}
 use Rattle.std.specs.Option.{option_map_or}
 use Rattle.affine.specs.declared.map.Parts.{Parts}
 use Rattle.box_tree.specs.declared.viewport.Viewport.{Viewport}
-use Rattle.box_tree.specs.declared.containing.Holder.{Holder}
-use Rattle.box_tree.specs.declared.containing.Holder.TheVariants.{Initial, Viewport as HolderViewport}
-use Rattle.box_tree.specs.declared.kind.Kind.{Kind}
-use Rattle.box_tree.specs.declared.kind.Kind.TheVariants.{Block, Inline, InlineBlock, Image, Svg, Text, Map, Area, Group, Shape, Inner}
-use Rattle.computed_style.specs.declared.style.Position.{Position}
-use Rattle.computed_style.specs.declared.style.Position.TheVariants.{Static, Relative, Absolute, Fixed}
 use Rattle.box_tree.specs.Forest.{Label, Forest, End, Grow}
 use Rattle.box_tree.specs.Contents.{Contents, placed_of, ancestors_of, tree_of}
-use Rattle.box_tree.specs.Containing.{parent_of, standing_at}
-use Rattle.box_tree.specs.Used.{is_block_container, is_positioned, is_transformed}
+use Rattle.box_tree.specs.Containing.{parent_of, may_hold, outermost, standing_at}
 use Rattle.spaces.specs.declared.table.around.Around.{Around}
-use Rattle.spaces.specs.declared.table.around.Wanted.{Wanted}
-use Rattle.spaces.specs.declared.table.around.Wanted.TheVariants.{Container, Positioned, Transformed, Parent}
+use Rattle.box_tree.specs.declared.containing.Wanted.{Wanted}
+use Rattle.box_tree.specs.declared.containing.Wanted.TheVariants.{Container, Positioned, Transformed, Parent}
 use Rattle.spaces.specs.declared.table.entry.Entry.{Entry}
 use Rattle.spaces.specs.Spaces.{is_laid_out, shows, inner_factors, outer_space, space_of}
 use Rattle.spaces.specs.Values.{values_along}
@@ -24,50 +17,12 @@ use Rattle.spaces.specs.Bound.{is_bounded_at}
 use Rattle.spaces.specs.Checked.{checked_products}
 use Rattle.spaces.specs.Table.{entry_at, entry_of, entry_under}
 
--- what a node of this position seeks, as `sought_at` of the containing blocks has it
-abbrev pub wanted_at : Position → Wanted
-wanted_at Static = Container
-wanted_at Relative = Container
-wanted_at Absolute = Positioned
-wanted_at Fixed = Transformed
-
--- what a node of this kind and position seeks, as `sought_as` has it
-abbrev pub wanted_as : Kind → Position → Wanted
-wanted_as Block position = wanted_at position
-wanted_as Inline position = wanted_at position
-wanted_as InlineBlock position = wanted_at position
-wanted_as Image position = wanted_at position
-wanted_as Svg position = wanted_at position
-wanted_as Text position = Container
-wanted_as Map position = Parent
-wanted_as Area position = Parent
-wanted_as Group position = Parent
-wanted_as Shape position = Parent
-wanted_as Inner position = Parent
-
-abbrev pub wanted_by : Label → Wanted
-wanted_by n = wanted_as n.kind n.style.position
-
--- whether a node, with its parent before it, is what is wanted, as `may_hold` has it
-abbrev pub holds : Wanted → Option Label → Label → Bool
-holds Container parent n = is_block_container parent n
-holds Positioned parent n = is_positioned parent n || is_transformed parent n
-holds Transformed parent n = is_transformed parent n
-holds Parent parent n = true
-
--- what holds a node that no ancestor holds, as `outermost` has it
-abbrev pub outer_holder : Wanted → Holder
-outer_holder Container = Initial
-outer_holder Positioned = Initial
-outer_holder Transformed = HolderViewport
-outer_holder Parent = Initial
-
--- where the containing block of what wants this among these ancestors, nearest first, places it: after the space of that
+-- where the containing block of what seeks this among these ancestors, nearest first, places it: after the space of that
 -- one and its factors, where no product on the way there passes the bound
 abbrev pub place_among : Viewport → Wanted → List Label → Option Parts
-place_among viewport wanted [] = Some (outer_space viewport (outer_holder wanted))
+place_among viewport wanted [] = Some (outer_space viewport (outermost wanted))
 place_among viewport wanted (n ∷ above) =
-    if holds wanted (parent_of above) n
+    if may_hold wanted (parent_of above) n
     then checked_products (space_of viewport (record { label = n; above = above })) (inner_factors (parent_of above) n)
     else place_among viewport wanted above
 

@@ -23,7 +23,7 @@ use Rattle.box_tree.specs.Forest.{Label, Placed}
 use Rattle.box_tree.specs.Contents.{Contents, placed_of}
 use Rattle.box_tree.specs.Suits.{is_svg_content}
 use Rattle.box_tree.specs.Used.{has_acting_transform, is_clipping, is_block_container, makes_viewport}
-use Rattle.box_tree.specs.Containing.{Standing, parent_of, sought, outermost, containing_block_chain}
+use Rattle.box_tree.specs.Containing.{Standing, parent_of, sought, outermost, containing_block_chain, standing_at}
 use Rattle.spaces.specs.declared.space.FinePoint.{FinePoint}
 
 -- the translation by a point of whole units
@@ -189,7 +189,11 @@ space page id = option_and_then (λ p. space_of page.viewport (standing_at p)) (
 abbrev pub fine_point : ℤ × ℤ → FinePoint
 fine_point at = record { x = at.0; y = at.1 }
 
--- a point of the viewport in the space of the node of an id: 64 times its exact preimage, rounded down, in fine units;
--- none where the space is singular
+-- a point of the viewport in a space: 64 times its exact preimage, rounded down, in fine units; none where there is no space,
+-- and where it is singular
+abbrev pub local_point_in : Option Parts → ℤ → ℤ → Option FinePoint
+local_point_in space x y = option_map fine_point (option_and_then (λ s. point_in s x y) space)
+
+-- the same in the space of the node of an id
 abbrev pub local_point : Contents → ℕ → ℤ → ℤ → Option FinePoint
-local_point page id x y = option_map fine_point (option_and_then (λ s. point_in s x y) (space page id))
+local_point page id x y = local_point_in (space page id) x y

@@ -1,9 +1,10 @@
 -- The table of the spaces of the nodes of a page and of the values that they inherit.
-use Rattle.std.specs.Prelude.{◌≡◌, ℕ, ◌<◌, List, Bool, true, if◌then◌else◌, ◌==◌, Option, Some, None, IsFalse, IsSome, slice_index_or, [], unwrap_or}
+use Rattle.std.specs.Prelude.{◌≡◌, ℕ, ◌<◌, List, Bool, true, if◌then◌else◌, ◌==◌, Option, Some, None, IsFalse, IsSome, slice_index_or, [], unwrap_or, ℤ}
 use Rattle.std.specs.Ordering.{nat_cmp}
 use Rattle.std.specs.Map.{lookup}
 use Rattle.std.specs.BTreeMap.{is_at}
 use Rattle.std.specs.Option.{option_map_or, option_and_then, option_or}
+use Rattle.affine.specs.declared.map.Parts.{Parts}
 use Rattle.box_tree.specs.declared.edit.Edit.{Edit}
 use Rattle.box_tree.specs.declared.edit.Edit.TheVariants.{Add, Remove, Move, Place, Restyle, Reshape, Scroll, Resize, ScrollView}
 use Rattle.box_tree.specs.declared.viewport.Viewport.{Viewport}
@@ -11,9 +12,10 @@ use Rattle.box_tree.specs.Forest.{Forest, End, Grow, ids_in, Placed}
 use Rattle.box_tree.specs.Contents.{Contents, placed_of, tree_of}
 use Rattle.box_tree.specs.Containing.{Standing, standing_at}
 use Rattle.box_tree.specs.Planned.{is_among}
+use Rattle.spaces.specs.declared.space.FinePoint.{FinePoint}
 use Rattle.spaces.specs.declared.table.entry.Entry.{Entry}
 use Rattle.box_tree.specs.Frame.{edited_node}
-use Rattle.spaces.specs.Spaces.{is_laid_out, space_of}
+use Rattle.spaces.specs.Spaces.{is_laid_out, space_of, local_point_in}
 use Rattle.spaces.specs.Values.{values_below}
 use Rattle.spaces.specs.Bound.{are_bounded, is_bounded}
 
@@ -32,6 +34,14 @@ entry_of page id = option_and_then (entry_placed page.viewport) (placed_of page 
 -- the entry that a table has of an id; it has room for the ids below its length
 abbrev pub entry_under : List (Option Entry) → ℕ → Option Entry
 entry_under table id = slice_index_or table id None
+
+-- the space that a table has of an id
+abbrev pub space_under : List (Option Entry) → ℕ → Option Parts
+space_under table id = option_and_then (λ entry. entry.space) (entry_under table id)
+
+-- a point of the viewport in that space
+abbrev pub local_point_under : List (Option Entry) → ℕ → ℤ → ℤ → Option FinePoint
+local_point_under table id x y = local_point_in (space_under table id) x y
 
 -- the table of a page: each node that is laid out has its entry, and no other id has one
 abbrev pub IsTableOf : List (Option Entry) → Contents → Type 0

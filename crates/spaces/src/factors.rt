@@ -4,11 +4,11 @@ ghost use Rattle.std.specs.Option.{option_map, option_copied, option_to_list};
 ghost use Rattle.affine.specs.Map.{translation};
 ghost use Rattle.box_tree.specs.Contents.{IsWithin, IsSide, IsSpotInRange, IsBoxInRange};
 ghost use Rattle.box_tree.specs.Kept.{label_of};
-ghost use Rattle.spaces.specs.Spaces.{top_border, right_border, bottom_border, left_border, moving_by, scrolled, padding_corner, scroll_factor, first_box, doubled_origin};
+ghost use Rattle.spaces.specs.Spaces.{top_border, right_border, bottom_border, left_border, moving_by, scrolled, padding_corner, scroll_factor, first_box, doubled_origin, outer_space};
 ghost use Rattle.spaces.specs.Sizes.{HasNumbersInRange, IsOriginInRange};
 
-use affine::{Map, translate};
-use box_tree::{Node, Piece, Viewport, is_block_container, is_clipping};
+use affine::{Map, identity, translate};
+use box_tree::{Holder, Node, Piece, Viewport, is_block_container, is_clipping};
 use fractions::Spot;
 
 // The translation by a point.
@@ -25,6 +25,18 @@ pub(crate) fn scrolled(viewport: &Viewport) -> Map
     ensures { result ≡ scrolled viewport.now }
 {
     back_by(viewport.scroll)
+}
+
+// The space of a containing block that is no node: the viewport doesn't move, and the initial containing block scrolls with
+// the page.
+pub(crate) fn outer_space(viewport: &Viewport, holder: Holder) -> Map
+    requires { IsSpotInRange viewport.now.scroll }
+    ensures { result ≡ outer_space viewport.now holder }
+{
+    match holder {
+        Holder::Initial => scrolled(viewport),
+        Holder::Viewport | Holder::Node { .. } => identity(),
+    }
 }
 
 // The translation by minus a scroll.

@@ -1,14 +1,15 @@
 //! Laws of the definitions, each the contract of a function without a body.
-ghost use Rattle.std.specs.Prelude.{◌≡◌, ℕ, ℤ, List, [], Option, None, Some, IsSome, IsSomeAnd, IsTrue};
+ghost use Rattle.std.specs.Prelude.{◌≡◌, ℕ, ℤ, List, [], Option, None, Some, IsSome, IfSome, IsSomeAnd, IsTrue};
 ghost use Rattle.box_tree.specs.declared.edit.Edit.{Edit};
 ghost use Rattle.std.specs.Option.{option_map, option_and_then};
+ghost use Rattle.computed_style.specs.Ranges.{IsSide};
 ghost use Rattle.box_tree.specs.Contents.{Contents, empty_page, IsValid};
 ghost use Rattle.box_tree.specs.Edited.{edited};
 ghost use Rattle.box_tree.specs.Frame.{edited_node, IsFaultless, StandsApart, IsOutside};
 ghost use Rattle.spaces.specs.declared.table.entry.Entry.{Entry};
-ghost use Rattle.spaces.specs.Spaces.{space};
+ghost use Rattle.spaces.specs.Spaces.{space, local_point};
 ghost use Rattle.spaces.specs.Bound.{is_bounded};
-ghost use Rattle.spaces.specs.Table.{is_bounded_in, entry_of, entry_under, new_entry, renewed_entry, applied, renewed_node, removed_ids, IsTableOf, IsTableOutside};
+ghost use Rattle.spaces.specs.Table.{is_bounded_in, entry_of, entry_under, local_point_under, new_entry, renewed_entry, applied, renewed_node, removed_ids, IsTableOf, IsTableOutside};
 ghost use Rattle.spaces.specs.Values.{values};
 
 /// An edit of a node leaves the space and the values of each node outside of it, which is neither the edited node nor
@@ -37,8 +38,13 @@ pub fn frame_bound()
     ensures { (page : Contents) (edit : Edit) → IsFaultless page edit → IsTrue (is_bounded page) → IsValid (edited page edit) → is_bounded_in (edited page edit) (renewed_node page edit) ≡ is_bounded (edited page edit) }
 {}
 
-/// What a table of a page has of an id is the space of its node, and where it has an entry the values of that node.
+/// What a table of a page has of an id is the space of its node, and where it has an entry the values of that node; the
+/// width of their stroke is 0 to 2^26 fine units. A point of the viewport in that space is its local point, which only a node
+/// with an entry has.
 pub fn table_entries()
     ensures space { (page : Contents) (id : ℕ) → option_and_then (λ entry. entry.space) (entry_of page id) ≡ space page id }
     ensures values { (page : Contents) (id : ℕ) → IsSome (entry_of page id) → option_map (λ entry. entry.values) (entry_of page id) ≡ values page id }
+    ensures width { (page : Contents) (id : ℕ) → IsValid page → IfSome (entry_of page id) (λ entry. IsSide 26 entry.values.stroke_width) }
+    ensures local_point { (table : List (Option Entry)) (page : Contents) (id : ℕ) (x y : ℤ) → IsTableOf table page → local_point_under table id x y ≡ local_point page id x y }
+    ensures entered { (table : List (Option Entry)) (id : ℕ) (x y : ℤ) → IsSome (local_point_under table id x y) → IsSome (entry_under table id) }
 {}

@@ -1,24 +1,27 @@
 // The table of the spaces of the nodes of a page and of the values that they inherit.
-ghost use Rattle.std.specs.Prelude.{◌≡◌, ◌+◌, ◌<◌, ◌≤◌, ◌-◌, ◌∷◌, ◌++◌, ℕ, [], length, replicate, vec_len, None, Some, IsTrue, IsFalse, IsSome, IfSome, IfOk, IfErr, OnOk, All, if◌then◌else◌, ◌==◌, true};
+ghost use Rattle.std.specs.Prelude.{◌≡◌, ◌^◌, ◌+◌, ◌<◌, ◌≤◌, ◌-◌, ◌∷◌, ◌++◌, ℕ, [], length, replicate, vec_len, None, Some, IsTrue, IsFalse, IsSome, IfSome, IfOk, IfErr, OnOk, All, if◌then◌else◌, ◌==◌, true};
 ghost use Rattle.std.specs.BTreeMap.{IsOrdered};
 ghost use Rattle.std.specs.Ordering.{nat_cmp};
 ghost use Rattle.std.specs.Option.{option_map, option_map_or, option_and_then, option_copied, option_or};
+ghost use Rattle.affine.specs.Function.{AreWithin};
 ghost use Rattle.box_tree.specs.Forest.{node_count, End};
-ghost use Rattle.box_tree.specs.Contents.{has_id, tree_of, IsValid};
+ghost use Rattle.box_tree.specs.Contents.{has_id, tree_of, IsValid, IsWithin};
 ghost use Rattle.box_tree.specs.Edited.{ancestors_below};
 ghost use Rattle.box_tree.specs.Planned.{is_among};
 ghost use Rattle.spaces.specs.Around.{place_among, AreEntered, IsAround};
 ghost use Rattle.spaces.specs.Spaces.{is_laid_out as laid_out_kind};
-ghost use Rattle.spaces.specs.Table.{entry_under, new_entry, renewed_entry, subtree_of, applied, is_bounded_in, is_bounded_from, FitsIn, IsTableOutside};
+ghost use Rattle.spaces.specs.Table.{entry_under, space_under, local_point_under, new_entry, renewed_entry, subtree_of, applied, is_bounded_in, is_bounded_from, FitsIn, IsTableOutside};
 
 use crate::checked::{find, inner};
-use crate::table::around::{Around, Wanted, may_hold, outermost};
+use crate::factors::outer_space;
+use crate::space::FinePoint;
+use crate::table::around::Around;
 use crate::table::entry::Kept;
 use crate::table::walk::renew_from;
 use crate::values::values_from;
 use crate::views::{all_show, is_laid_out};
-use affine::Map;
-use box_tree::{Kind, Page};
+use affine::{Map, local};
+use box_tree::{Kind, Page, Wanted, may_hold, outermost};
 use computed_style::Inherited;
 use fractions::{Blank, Brand, Ledger, Steps};
 use std::alloc::{AllocError, Global};
@@ -63,7 +66,7 @@ impl SpaceTable {
     /// The space of the node of an id: the map from its coordinates to those of the viewport, in units. None exactly
     /// where the id has no entry or its node no space. It takes one step.
     pub fn space_of<L: Ledger>(&self, id: u32, steps: &mut Steps<L>) -> Option<&Map>
-        ensures space { option_copied result ≡ option_and_then (λ entry. entry.space) (entry_under self.now id) }
+        ensures space { option_copied result ≡ space_under self.now id }
         ensures step { steps.new ≡ steps.old + 1 }
     {
         steps.tick();
@@ -71,6 +74,27 @@ impl SpaceTable {
             Some(Some(kept)) => kept.entry().space.as_ref(),
             Some(None) | None => None,
         }
+    }
+
+    /// A point of the viewport, in units within 2^20, in the space of the node of an id, in fine units (1/4096 px): 64 times its
+    /// exact preimage, rounded down. Its coordinates are at most 2^122 in size. None exactly where the id has no entry, its
+    /// node no space, or one that is singular. It takes one step.
+    pub fn local_point<L: Ledger>(
+        &self,
+        id: u32,
+        x: i64,
+        y: i64,
+        steps: &mut Steps<L>,
+    ) -> Option<FinePoint>
+        requires x { IsWithin 20 x }
+        requires y { IsWithin 20 y }
+        ensures value { result ≡ local_point_under self.now id x y }
+        ensures size { IfSome result (λ at. AreWithin (2 ^ 122) at.x at.y) }
+        ensures step { steps.new ≡ steps.old + 1 }
+    {
+        let space = self.space_of(id, steps)?;
+        let (x, y) = local(space, x, y)?;
+        Some(FinePoint { x, y })
     }
 
     /// The values of the node of an id that has an entry. It takes one step.
@@ -159,7 +183,7 @@ impl SpaceTable {
         ensures { result ≡ place_among page.now.contents.viewport wanted (ancestors_below page.now.contents id) }
     {
         if !page.has(id) {
-            return Some(outermost(wanted, &page.viewport()));
+            return Some(outer_space(&page.viewport(), outermost(wanted)));
         }
         let node = page.node(id, steps);
         let parent = find(page, node.parent, steps);
@@ -172,7 +196,7 @@ impl SpaceTable {
 
     // The space of the node of an id and of this kind, where it has one: a map and its areas have no entry.
     fn kept_space(&self, id: u32, kind: Kind) -> Option<Map>
-        ensures { result ≡ (if laid_out_kind kind then option_and_then (λ entry. entry.space) (entry_under self.now id) else None) }
+        ensures { result ≡ (if laid_out_kind kind then space_under self.now id else None) }
     {
         if !is_laid_out(kind) {
             return None;

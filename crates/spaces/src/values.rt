@@ -3,10 +3,9 @@ ghost use Rattle.std.specs.Prelude.{◌≡◌, Some, IsTrue};
 ghost use Rattle.computed_style.specs.Ranges.{IsSide};
 ghost use Rattle.box_tree.specs.Contents.{has_id, IsValid};
 ghost use Rattle.box_tree.specs.Edited.{ancestors_below};
-ghost use Rattle.box_tree.specs.Suits.{is_text as names_text};
 ghost use Rattle.spaces.specs.Values.{values_along, values};
 
-use box_tree::{Kind, Page};
+use box_tree::Page;
 use computed_style::{Inherited, compute};
 use fractions::{Ledger, Steps};
 
@@ -20,7 +19,7 @@ pub fn plain_values<L: Ledger>(page: &Page, id: u32, steps: &mut Steps<L>) -> In
 {
     page.validity();
     let node = page.node(id, steps);
-    if is_text(node.kind) {
+    if node.kind.is_text() {
         values_from(page, node.parent, steps)
     } else {
         values_from(page, id, steps)
@@ -39,12 +38,6 @@ pub(crate) fn values_from<L: Ledger>(page: &Page, id: u32, steps: &mut Steps<L>)
     let node = page.node(id, steps);
     let above = values_from(page, node.parent, steps);
     compute(&above, &node.style)
-}
-
-pub(crate) fn is_text(kind: Kind) -> bool
-    ensures { result ≡ names_text kind }
-{
-    kind == Kind::Text
 }
 
 #[cfg(test)]

@@ -1,40 +1,25 @@
 // What the ancestors of a node hand down to it.
 ghost use Rattle.std.specs.Prelude.{◌≡◌, ◌&&◌, IsTrue, IsFalse, IfOk, IfErr, OnOk, OnErr, Some, if◌then◌else◌};
 ghost use Rattle.std.specs.Option.{option_map, option_copied};
-ghost use Rattle.box_tree.specs.Contents.{has_id, ancestors_of, placed_of, IsSpotInRange, IsValid};
+ghost use Rattle.box_tree.specs.Containing.{may_hold, standing_at};
+ghost use Rattle.box_tree.specs.Contents.{has_id, ancestors_of, placed_of, IsValid};
 ghost use Rattle.box_tree.specs.Edited.{ancestors_below};
 ghost use Rattle.box_tree.specs.Kept.{label_of};
-ghost use Rattle.box_tree.specs.Suits.{is_text as names_text};
+ghost use Rattle.box_tree.specs.Suits.{is_text};
 ghost use Rattle.computed_style.specs.Inheritance.{computed};
-ghost use Rattle.spaces.specs.Around.{wanted_at, wanted_as, wanted_by, holds, outer_holder, place_in, is_bounded_by, IsAround};
+ghost use Rattle.spaces.specs.Around.{place_in, is_bounded_by, IsAround};
 ghost use Rattle.spaces.specs.Sizes.{HasNumbersInRange};
-ghost use Rattle.box_tree.specs.Containing.{standing_at};
-ghost use Rattle.spaces.specs.Spaces.{is_laid_out as laid_out_kind, shows as shows_label, outer_space, space as space_at};
+ghost use Rattle.spaces.specs.Spaces.{is_laid_out as laid_out_kind, shows as shows_label, space as space_at};
 ghost use Rattle.spaces.specs.Table.{entry_at};
 
 use crate::checked::{find, inner, own};
-use crate::factors::scrolled;
 use crate::table::entry::Entry;
 use crate::table::fault::BoundOrMemory;
-use crate::values::is_text;
 use crate::views::{is_laid_out, shows};
-use affine::{Map, identity};
-use box_tree::{Kind, Node, Page, Viewport, is_block_container, is_positioned, is_transformed};
-use computed_style::{Inherited, Position, compute};
+use affine::Map;
+use box_tree::{Kind, Node, Page, Wanted, may_hold, sought};
+use computed_style::{Inherited, compute};
 use fractions::{Ledger, Steps};
-
-/// What a node seeks among its ancestors as its containing block (CSS 2.2, 10.1; CSS Transforms 1, 3).
-#[derive(Clone, Copy)]
-pub(crate) enum Wanted {
-    /// A block container.
-    Container,
-    /// A positioned or transformed node.
-    Positioned,
-    /// A transformed node.
-    Transformed,
-    /// Its parent.
-    Parent,
-}
 
 /// What the ancestors of a node hand down to it.
 #[derive(Drop)]
@@ -72,7 +57,7 @@ impl Around {
         node: &Node,
         inner: &Option<Map>,
     ) -> Option<Map>
-        ensures { result ≡ (if holds wanted (option_map label_of (option_copied parent.entry)) (label_of node.now) then inner.now else place_in self.now wanted) }
+        ensures { result ≡ (if may_hold wanted (option_map label_of (option_copied parent.entry)) (label_of node.now) then inner.now else place_in self.now wanted) }
     {
         if may_hold(wanted, parent, node) {
             *inner
@@ -137,9 +122,9 @@ impl Around {
 
     // The values of a node: a text takes its parent's.
     fn values(&self, node: &Node) -> Inherited
-        ensures { result ≡ (if names_text node.now.kind then self.now.values else computed self.now.values node.now.style) }
+        ensures { result ≡ (if is_text node.now.kind then self.now.values else computed self.now.values node.now.style) }
     {
-        if is_text(node.kind) {
+        if node.kind.is_text() {
             self.values
         } else {
             compute(&self.values, &node.style)
@@ -179,60 +164,5 @@ impl Around {
             transformed: self.place_inside(Wanted::Transformed, parent, node, &inner),
             parent: self.place_inside(Wanted::Parent, parent, node, &inner),
         }
-    }
-}
-
-// What a node seeks as its containing block.
-fn sought(node: &Node) -> Wanted
-    ensures { result ≡ wanted_by (label_of node.now) }
-{
-    sought_as(node.kind, node.style.position)
-}
-
-// What a node of this kind and position seeks.
-fn sought_as(kind: Kind, position: Position) -> Wanted
-    ensures { result ≡ wanted_as kind position }
-{
-    match kind {
-        Kind::Block | Kind::Inline | Kind::InlineBlock | Kind::Image | Kind::Svg => {
-            sought_at(position)
-        }
-        Kind::Text => Wanted::Container,
-        Kind::Map | Kind::Area | Kind::Group | Kind::Shape | Kind::Inner => Wanted::Parent,
-    }
-}
-
-// What a CSS node of this position seeks.
-fn sought_at(position: Position) -> Wanted
-    ensures { result ≡ wanted_at position }
-{
-    match position {
-        Position::Static | Position::Relative => Wanted::Container,
-        Position::Absolute => Wanted::Positioned,
-        Position::Fixed => Wanted::Transformed,
-    }
-}
-
-/// Whether a node may be the containing block of what seeks this.
-pub(crate) fn may_hold(wanted: Wanted, parent: Option<&Node>, node: &Node) -> bool
-    ensures { result ≡ holds wanted (option_map label_of (option_copied parent.entry)) (label_of node.now) }
-{
-    match wanted {
-        Wanted::Container => is_block_container(parent, node),
-        Wanted::Positioned => is_positioned(parent, node) || is_transformed(parent, node),
-        Wanted::Transformed => is_transformed(parent, node),
-        Wanted::Parent => true,
-    }
-}
-
-/// Where what seeks this is placed if no node holds it: the viewport doesn't move, and the initial containing block
-/// scrolls with the page.
-pub(crate) fn outermost(wanted: Wanted, viewport: &Viewport) -> Map
-    requires { IsSpotInRange viewport.now.scroll }
-    ensures { result ≡ outer_space viewport.now (outer_holder wanted) }
-{
-    match wanted {
-        Wanted::Container | Wanted::Positioned | Wanted::Parent => scrolled(viewport),
-        Wanted::Transformed => identity(),
     }
 }

@@ -2,7 +2,7 @@ ghost use Rattle.std.specs.Prelude.{◌≡◌, ◌<◌};
 
 use super::*;
 use Kind::{Block, Text};
-use box_tree::{Edit, Piece, PieceList};
+use box_tree::{Edit, Kind, Piece, PieceList};
 use computed_style::{PointerEvents, Style};
 use fractions::{Blank, Brand};
 use std::alloc::Global;
