@@ -1,5 +1,5 @@
 -- The clips of a node are that of its containing block, where that is a node, and those of that node.
-use Rattle.std.proofs.Common.{◌≡◌, ℕ, ◌∷◌, List, [], Option, Some, None, Bool, true, false, is_some, if◌then◌else◌, refl, sym, ap, subst, ◌∙◌}
+use Rattle.std.proofs.Common.{◌≡◌, ℕ, suc, ◌∷◌, List, [], Option, Some, None, Bool, true, false, is_some, if◌then◌else◌, refl, sym, ap, subst, ◌∙◌}
 use Rattle.std.specs.Prelude.{◌&&◌, ◌||◌, ◌↔◌, ℤ, IsNone, IfSome, nat_lt, length}
 use Rattle.std.specs.List.{list_all}
 use Rattle.std.specs.Option.{option_map_or}
@@ -22,7 +22,7 @@ use Rattle.box_tree.proofs.ContainingLemmas.{standing, label-seen, held_by, unhe
 use Rattle.spaces.specs.Spaces.{local_point}
 use Rattle.spaces.proofs.SuitedLemmas.{suited-seen}
 use Rattle.scroll_clip.specs.Curves.{padding_curve, HasCurvesInRange}
-use Rattle.scroll_clip.specs.Clips.{port_clip, curve_by, clipping_curve, clip_set_by, clip_of, clip_holds, lets_in, inside_clips}
+use Rattle.scroll_clip.specs.Clips.{port_clip, curve_by, clipping_curve, clip_set_by, clip_of, clip_holds, holders_of, lets_in, inside_clips}
 
 -- a node that clips has a box or a viewport, and so a curve
 port-there : (form : Option Form) → gives_port form ≡ true → is_some (port_clip form) ≡ false → ⊥
@@ -89,6 +89,15 @@ module _ (page : Contents) (valid : IsValid page) (id : ℕ) (node : Node) (seen
       ∙ ap (λ (h : ℕ). clip_holds (clip_set_by is.standing_is) (local_point page h x y) && list_all (lets_in page x y) (containing_block_chain is.standing_is)) is.id_is
       ∙ ap (λ (o : Option Rounded). clip_holds o (local_point page holder x y) && list_all (lets_in page x y) (containing_block_chain is.standing_is)) (sym (ap (λ (o : Option Placed). option_map_or (λ p. clip_set_by (standing_at p)) o None) found'))
       ∙ ap (λ (b : Bool). clip_holds (clip_of page holder) (local_point page holder x y) && b) (sym (ap (inside-from x y) found'))
+
+  -- which has one containing block fewer
+  pub fewer-held : (holder : ℕ) → containing_block page id ≡ HolderNode holder → length (holders_of page id) ≡ suc (length (holders_of page holder))
+  fewer-held holder by =
+      let is = held_by page valid id node seen holder by in
+      let found' : placed_of page holder ≡ Some (record { label = is.standing_is.label; above = is.standing_is.above; below = is.stands.below }) = ap (placed_of page) (sym is.id_is) ∙ is.stands.found in
+      ap (λ (o : Option Placed). length (option_map_or (λ p. containing_block_chain (standing_at p)) o [])) found
+      ∙ ap (λ (holders : List Standing). length holders) is.chain_is
+      ∙ sym (ap (λ (o : Option Placed). suc (length (option_map_or (λ p. containing_block_chain (standing_at p)) o []))) found')
 
   -- inside no node
   pub inside-unheld : (x y : ℤ) (by : Holder) → containing_block page id ≡ by → ((holder : ℕ) → by ≡ HolderNode holder → ⊥) → inside_clips page id x y ≡ true

@@ -47,6 +47,10 @@ clip_of page id = option_map_or (λ p. clip_set_by (standing_at p)) (placed_of p
 abbrev pub clip_holds : Option Rounded → Option FinePoint → Bool
 clip_holds clip at = option_map_or (λ curve. option_map_or (λ a. in_rounded curve a.x a.y) at false) clip true
 
+-- the containing blocks of the node of an id that are nodes, nearest first, itself left out
+abbrev pub holders_of : Contents → ℕ → List Standing
+holders_of page id = option_map_or (λ p. containing_block_chain (standing_at p)) (placed_of page id) []
+
 -- whether what a containing block sets as its clip holds a point of the viewport, in the space of that containing block,
 -- which the scroll of what it holds doesn't move
 abbrev pub lets_in : Contents → ℤ → ℤ → Standing → Bool

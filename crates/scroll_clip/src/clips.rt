@@ -1,20 +1,19 @@
 // The clips that nodes set, and the points inside them.
-ghost use Rattle.std.specs.Prelude.{◌≡◌, ◌<◌, ◌↔◌, false, IsTrue, IsNone, IfSome};
+ghost use Rattle.std.specs.Prelude.{◌≡◌, ◌<◌, ◌≤◌, ◌+◌, ◌*◌, ◌↔◌, length, false, IsTrue, IsNone, IfSome};
 ghost use Rattle.corner_shapes.specs.Curve.{IsMeasured};
 ghost use Rattle.box_tree.specs.Contents.{has_id, IsValid, IsWithin};
 ghost use Rattle.box_tree.specs.Containing.{clips};
 ghost use Rattle.box_tree.specs.Forms.{IsFormInRange};
 ghost use Rattle.box_tree.specs.Kept.{label_of};
-ghost use Rattle.spaces.specs.Bound.{is_bounded};
-ghost use Rattle.spaces.specs.Spaces.{local_point};
+ghost use Rattle.spaces.specs.Table.{local_point_under, IsTableOf};
 ghost use Rattle.scroll_clip.specs.Curves.{HasCurvesInRange};
-ghost use Rattle.scroll_clip.specs.Clips.{clipping_curve, port_clip, clip_of, clip_holds, inside_clips};
+ghost use Rattle.scroll_clip.specs.Clips.{clipping_curve, port_clip, clip_of, clip_holds, holders_of, inside_clips};
 
 use crate::curves::{padding_curve, port_curve};
 use box_tree::{Form, Holder, Node, Page};
 use corner_shapes::Rounded;
 use fractions::{Blank, Brand, Ledger, Steps};
-use spaces::{FinePoint, local_point};
+use spaces::{FinePoint, SpaceTable};
 
 /// The clip that a node sets on what it holds, in its own space and in fine units (1/4096 px): the padding curve of its
 /// first box (CSS 2.2, 11.1.1; CSS Backgrounds and Borders 3, "Corner Clipping"). None exactly where the node doesn't
@@ -42,30 +41,40 @@ fn clip_with<L: Ledger>(page: &Page, id: u32, blank: Blank) -> Option<Rounded>
     clip_of(page, id, &mut Steps::<L>::new(blank))
 }
 
-/// Whether a point of the viewport, in units within 2^20, lies inside the clips of a node: the clip of each of its
-/// containing blocks that clips, the node itself left out, holds the point in the space of that containing block (CSS 2.2,
-/// 11.1.1). A clip holds no point where its space is singular. It climbs at most 256 containing blocks.
-pub fn inside_clips<L: Ledger>(page: &Page, id: u32, x: i64, y: i64, steps: &mut Steps<L>) -> bool
+/// Whether a point of the viewport, in units within 2^20, lies inside the clips of a node, by the table of the page: the clip
+/// of each of its containing blocks that clips, the node itself left out, holds the point in the space of that containing
+/// block (CSS 2.2, 11.1.1). A clip holds no point where its space is singular. It takes at most two steps for each of these
+/// containing blocks, of which there are at most 255.
+pub fn inside_clips<L: Ledger>(
+    page: &Page,
+    spaces: &SpaceTable,
+    id: u32,
+    x: i64,
+    y: i64,
+    steps: &mut Steps<L>,
+) -> bool
     requires there { IsTrue (has_id page.now.contents id) }
-    requires bounded { IsTrue (is_bounded page.now.contents) }
+    requires table { IsTableOf spaces.now page.now.contents }
     requires x { IsWithin 20 x }
     requires y { IsWithin 20 y }
-    ensures { result ≡ inside_clips page.now.contents id x y }
+    ensures inside { result ≡ inside_clips page.now.contents id x y }
+    ensures cost { steps.new ≤ steps.old + 2 * length (holders_of page.now.contents id) }
 {
     page.validity();
     let by = page.containing_block(id);
     match by {
         Holder::Node { id: holder } => {
             let clip = clip_of(page, holder, steps);
-            clip_lets_in(page, clip, holder, x, y, steps) && inside_clips(page, holder, x, y, steps)
+            clip_lets_in(spaces, clip, holder, x, y, steps)
+                && inside_clips(page, spaces, holder, x, y, steps)
         }
         Holder::Initial | Holder::Viewport => true,
     }
 }
 
-// Whether the clip of a node, where it sets one, holds a point of the viewport in the space of that node.
+// Whether the clip of a node, where it sets one, holds a point of the viewport in the space of that node, by the table.
 fn clip_lets_in<L: Ledger>(
-    page: &Page,
+    spaces: &SpaceTable,
     clip: Option<Rounded>,
     id: u32,
     x: i64,
@@ -73,14 +82,13 @@ fn clip_lets_in<L: Ledger>(
     steps: &mut Steps<L>,
 ) -> bool
     requires clip { IfSome clip (λ curve. IsMeasured curve) }
-    requires there { IsTrue (has_id page.now.contents id) }
-    requires bounded { IsTrue (is_bounded page.now.contents) }
     requires x { IsWithin 20 x }
     requires y { IsWithin 20 y }
-    ensures { result ≡ clip_holds clip (local_point page.now.contents id x y) }
+    ensures holds { result ≡ clip_holds clip (local_point_under spaces.now id x y) }
+    ensures cost { steps.new ≤ steps.old + 1 }
 {
     match clip {
-        Some(curve) => curve_holds(&curve, local_point(page, id, x, y, steps)),
+        Some(curve) => curve_holds(&curve, spaces.local_point(id, x, y, steps)),
         None => true,
     }
 }
@@ -102,6 +110,7 @@ fn clip_of<L: Ledger>(page: &Page, id: u32, steps: &mut Steps<L>) -> Option<Roun
     requires there { IsTrue (has_id page.now.contents id) }
     ensures clip { result ≡ clip_of page.now.contents id }
     ensures measured { IfSome result (λ curve. IsMeasured curve) }
+    ensures cost { steps.new ≤ steps.old + 1 }
 {
     if page.clips(id) {
         clipping_curve(page.node(id, steps))

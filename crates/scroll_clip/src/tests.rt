@@ -1,7 +1,8 @@
 // Clips of pages that were worked out by hand.
-ghost use Rattle.std.specs.Prelude.{◌≡◌, ◌<◌, IsTrue};
+ghost use Rattle.std.specs.Prelude.{◌≡◌, ◌<◌, IsTrue, IfOk};
 ghost use Rattle.box_tree.specs.Contents.{has_id};
 ghost use Rattle.box_tree.specs.Kept.{label_of};
+ghost use Rattle.spaces.specs.Table.{IsTableOf};
 ghost use Rattle.scroll_clip.specs.Curves.{HasCurvesInRange};
 
 use crate::{border_curve, clip_rounded, inside_clips, padding_curve};
@@ -9,7 +10,7 @@ use box_tree::{Edit, Kind, Node, Page, Piece, PieceList};
 use computed_style::{Function, Functions, Overflow, Position, Style};
 use corner_shapes::{Corners, Rounded};
 use fractions::{Blank, Brand, Ledger, Steps};
-use spaces::within;
+use spaces::SpaceTable;
 use std::alloc::Global;
 use std::process::Abort;
 use std::test::Fail;
@@ -166,20 +167,37 @@ fn nested(rt: &impl Abort, alloc: Global) -> Result<Page, Fail> {
     Ok(page)
 }
 
+// The table of a page.
+fn table_of<L: Ledger>(alloc: Global, page: &Page, steps: &mut Steps<L>) -> Result<SpaceTable, Fail>
+    ensures { IfOk result (λ table. IsTableOf table page.now.contents) }
+{
+    let mut table = SpaceTable::new(alloc);
+    let change = table.renew(page, 0)?;
+    table.apply(change, &[], steps);
+    Ok(table)
+}
+
 // Compares whether points lie inside the clips of nodes.
-fn compare<L: Ledger>(rt: &impl Abort, page: &Page, points: &[(u32, i64, i64, bool)], blank: Blank)
+fn compare<L: Ledger>(
+    rt: &impl Abort,
+    alloc: Global,
+    page: &Page,
+    points: &[(u32, i64, i64, bool)],
+    blank: Blank,
+) -> Result<(), Fail>
     requires name { blank.name ≡ L.name }
     requires parts { blank.parts ≡ L.parts }
     requires some_parts { 0 < blank.parts }
 {
-    let mut steps = Steps::<L>::new(blank);
-    assert!(rt; within(page));
+    let steps = &mut Steps::<L>::new(blank);
+    let table = table_of(alloc, page, steps)?;
     for &(id, x, y, inside) in points {
         assert!(rt; page.has(id));
         assert!(rt; -100_000 < x && x < 100_000 && -100_000 < y && y < 100_000);
-        let told = inside_clips(page, id, x, y, &mut steps);
+        let told = inside_clips(page, &table, id, x, y, steps);
         assert_eq!(rt; told, inside, "{id} {x} {y}");
     }
+    Ok(())
 }
 
 #[test]
@@ -220,8 +238,7 @@ fn the_clips_of_containing_blocks_alone_cut_off(rt: HostRuntime) -> Result<(), F
         (10, 5, 5, true),
         (11, 5, 5, false),
     ];
-    compare::<Brand>(&rt, &page, &points, Blank::new(1));
-    Ok(())
+    compare::<Brand>(&rt, rt.alloc(), &page, &points, Blank::new(1))
 }
 
 // A rounded box with equal radii at all corners.
