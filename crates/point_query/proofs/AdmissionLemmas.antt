@@ -1,19 +1,23 @@
 -- The element of one item, by its node as a reader sees it.
-use Rattle.std.proofs.Common.{◌≡◌, ℕ, ℤ, [], ◌∷◌, map, Option, Some, None, Bool, true, false, cond, is_some, if◌then◌else◌, refl, sym, ap, ◌∙◌}
-use Rattle.std.specs.Prelude.{◌&&◌}
+use Rattle.std.proofs.Common.{◌≡◌, ℕ, ℤ, List, [], ◌∷◌, map, Option, Some, None, IsSome, Bool, true, false, cond, is_some, if◌then◌else◌, refl, sym, ap, subst, ◌∙◌}
+use Rattle.std.specs.Prelude.{◌&&◌, IfSome}
 use Rattle.std.specs.Option.{option_map, option_map_or}
 use Rattle.computed_style.specs.declared.inherited.Inherited.{Inherited}
+use Rattle.computed_style.specs.Ranges.{IsSide}
 use Rattle.box_tree.specs.declared.item.Item.{Item}
 use Rattle.box_tree.specs.declared.node.Node.{Node}
 use Rattle.box_tree.specs.Forest.{Label, Placed}
-use Rattle.box_tree.specs.Contents.{Contents, placed_of, node_of, has_id, parent_id}
+use Rattle.box_tree.specs.Contents.{Contents, placed_of, node_of, has_id, parent_id, IsValid}
 use Rattle.box_tree.specs.Kept.{label_of}
 use Rattle.box_tree.proofs.PlacedLemmas.{IsSeenAt, seen_at}
 use Rattle.spaces.specs.declared.space.FinePoint.{FinePoint}
+use Rattle.spaces.specs.declared.table.entry.Entry.{Entry}
 use Rattle.spaces.specs.Spaces.{local_point}
+use Rattle.spaces.specs.Table.{entry_of, entry_under, local_point_under, IsTableOf}
 use Rattle.spaces.specs.Values.{values_below, values}
+use Rattle.spaces.proofs.TableFrameLemmas.{entry-values, entry-width, entry-local_point}
 use Rattle.scroll_clip.specs.Clips.{inside_clips}
-use Rattle.point_query.specs.ImageMaps.{area_under}
+use Rattle.point_query.specs.ImageMaps.{area_at, area_under}
 use Rattle.point_query.specs.Elements.{element_as, element_of, part_admits, row_holds, admits, elements_of}
 
 -- an item of no node is not admitted
@@ -60,3 +64,31 @@ elements_of-seen page x y item node at inherited seen at_is values_are =
     by_test : (held : Bool) → map (element_of page x y) (cond held (item ∷ []) []) ≡ (if held then element_as node.kind node.parent node.id (area_under page (label_of node) at) ∷ [] else [])
     by_test true = ap (λ (e : ℕ). e ∷ []) element_is
     by_test false = refl
+
+-- what the table of the page has of the node of the item
+module _ (table : List (Option Entry)) (page : Contents) (is : IsTableOf table page) (item : Item) (inherited : Inherited) (values_are : option_map (λ entry. entry.values) (entry_under table item.node) ≡ Some inherited) where
+  kept : option_map (λ entry. entry.values) (entry_of page item.node) ≡ Some inherited
+  kept = ap (option_map (λ entry. entry.values)) (sym (is item.node)) ∙ values_are
+
+  -- its values are those of the node, with a stroke within its limits
+  values-kept : values page item.node ≡ Some inherited
+  values-kept = sym (entry-values page item.node (there (entry_of page item.node) kept)) ∙ kept
+    where
+      there : (o : Option Entry) → option_map (λ entry. entry.values) o ≡ Some inherited → IsSome o
+      there None none = cc
+      there (Some entry) some = refl
+
+  pub width-kept : IsValid page → IsSide 26 inherited.stroke_width
+  width-kept valid = by_entry (entry_of page item.node) kept (entry-width page item.node valid)
+    where
+      by_entry : (o : Option Entry) → option_map (λ entry. entry.values) o ≡ Some inherited → IfSome o (λ entry. IsSide 26 entry.values.stroke_width) → IsSide 26 inherited.stroke_width
+      by_entry None none width = absurd cc
+      by_entry (Some entry) some width =
+          let same : entry.values ≡ inherited = cc in
+          subst (λ (v : Inherited). IsSide 26 v.stroke_width) same width
+
+  -- and its local point is that of the page
+  pub elements_of-kept : (x y : ℤ) (node : Node) (at : FinePoint) → node_of page item.node ≡ Some node → Some at ≡ local_point_under table item.node x y →
+      elements_of page x y (item ∷ []) ≡ (if part_admits (label_of node) inherited at item.part && inside_clips page item.node x y then element_as node.kind node.parent node.id (area_at page (label_of node) at) ∷ [] else [])
+  elements_of-kept x y node at seen at_is =
+      elements_of-seen page x y item node (Some at) inherited seen (sym (at_is ∙ entry-local_point table page item.node x y is)) values-kept

@@ -7,7 +7,7 @@ ghost use Rattle.computed_style.specs.Ranges.{IsSide};
 ghost use Rattle.box_tree.specs.Contents.{IsWithin};
 ghost use Rattle.box_tree.specs.Forms.{IsFormInRange};
 ghost use Rattle.box_tree.specs.Kept.{label_of};
-ghost use Rattle.spaces.specs.Bound.{is_bounded};
+ghost use Rattle.spaces.specs.Table.{IsTableOf};
 ghost use Rattle.scroll_clip.specs.Curves.{border_curve, padding_curve, HasCurvesInRange};
 ghost use Rattle.point_query.specs.Elements.{elements_of, part_admits};
 
@@ -17,17 +17,18 @@ use box_tree::{Item, Node, Page, Part};
 use computed_style::{Inherited, admits_box};
 use fractions::{Ledger, Steps};
 use scroll_clip::{border_curve, inside_clips, padding_curve};
-use spaces::{FinePoint, local_point, plain_values};
+use spaces::{FinePoint, SpaceTable};
 
-// The element of an item, where the item is admitted at a point of the viewport.
+// The element of an item, where the item is admitted at a point of the viewport, by the table of the page.
 pub(crate) fn admitted_element<L: Ledger>(
     page: &Page,
+    spaces: &SpaceTable,
     item: Item,
     x: i64,
     y: i64,
     steps: &mut Steps<L>,
 ) -> Option<u32>
-    requires bounded { IsTrue (is_bounded page.now.contents) }
+    requires table { IsTableOf spaces.now page.now.contents }
     requires x { IsWithin 20 x }
     requires y { IsWithin 20 y }
     ensures { option_to_list result ≡ elements_of page.now.contents x y (item ∷ []) }
@@ -36,30 +37,16 @@ pub(crate) fn admitted_element<L: Ledger>(
         return None;
     }
     page.validity();
-    let at = local_point(page, item.node, x, y, steps);
-    let values = plain_values(page, item.node, steps);
+    let at = spaces.local_point(item.node, x, y, steps)?;
+    let values = spaces.values_of(item.node, steps);
     let node = page.node(item.node, steps);
-    if !admits_at(node, &values, at, item.part) {
+    if !part_admits(node, values, at, item.part) {
         return None;
     }
-    if !inside_clips(page, item.node, x, y, steps) {
+    if !inside_clips(page, spaces, item.node, x, y, steps) {
         return None;
     }
     Some(element_of(page, node, at, steps))
-}
-
-// Whether a part of a node is admitted at its local point, where it has one.
-fn admits_at(node: &Node, values: &Inherited, at: Option<FinePoint>, part: Part) -> bool
-    requires curves { HasCurvesInRange (label_of node.now) }
-    requires form { IfSome node.now.form IsFormInRange }
-    requires width { IsSide 26 values.now.stroke_width }
-    requires at { IfSome at (λ a. AreWithin (2 ^ 122) a.x a.y) }
-    ensures { result ≡ option_map_or (λ a. part_admits (label_of node.now) values.now a part) at false }
-{
-    match at {
-        Some(at) => part_admits(node, values, at, part),
-        None => false,
-    }
 }
 
 // Whether a part of a node is admitted at its local point: its area holds the point, and its values let it be a target.

@@ -5,7 +5,7 @@ ghost use Rattle.box_tree.specs.Contents.{IsWithin, IsBoxInRange};
 ghost use Rattle.box_tree.specs.Kept.{label_of};
 ghost use Rattle.scroll_clip.specs.Curves.{HasCurvesInRange};
 ghost use Rattle.point_query.specs.Elements.{element_as};
-ghost use Rattle.point_query.specs.ImageMaps.{map_named, past_border, area_in, area_at, area_under};
+ghost use Rattle.point_query.specs.ImageMaps.{map_named, past_border, area_in, area_at};
 
 use box_tree::{Form, Kind, Node, Page, Piece};
 use fractions::{Ledger, Steps};
@@ -17,14 +17,14 @@ use spaces::{FinePoint, left_border, top_border};
 pub(crate) fn element_of<L: Ledger>(
     page: &Page,
     node: &Node,
-    at: Option<FinePoint>,
+    at: FinePoint,
     steps: &mut Steps<L>,
 ) -> u32
     requires { HasCurvesInRange (label_of node.now) }
-    ensures { result ≡ element_as node.now.kind node.now.parent node.now.id (area_under page.now.contents (label_of node.now) at) }
+    ensures { result ≡ element_as node.now.kind node.now.parent node.now.id (area_at page.now.contents (label_of node.now) at) }
 {
     match node.kind {
-        Kind::Image => area_under(page, node, at, steps).unwrap_or(node.id),
+        Kind::Image => area_at(page, node, at, steps).unwrap_or(node.id),
         Kind::Text => node.parent,
         Kind::Block
         | Kind::Inline
@@ -35,22 +35,6 @@ pub(crate) fn element_of<L: Ledger>(
         | Kind::Group
         | Kind::Shape
         | Kind::Inner => node.id,
-    }
-}
-
-// The area in the place of an image, where the image has a local point.
-fn area_under<L: Ledger>(
-    page: &Page,
-    node: &Node,
-    at: Option<FinePoint>,
-    steps: &mut Steps<L>,
-) -> Option<u32>
-    requires { HasCurvesInRange (label_of node.now) }
-    ensures { result ≡ area_under page.now.contents (label_of node.now) at }
-{
-    match at {
-        Some(at) => area_at(page, node, at, steps),
-        None => None,
     }
 }
 

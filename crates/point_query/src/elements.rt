@@ -2,12 +2,13 @@ ghost use Rattle.std.specs.Prelude.{◌≡◌, ◌↔◌, ◌⊎◌, false, IsNo
 ghost use Rattle.std.specs.Option.{option_to_list};
 ghost use Rattle.box_tree.specs.Contents.{IsWithin};
 ghost use Rattle.box_tree.specs.Forest.{roots_of};
-ghost use Rattle.spaces.specs.Bound.{is_bounded};
+ghost use Rattle.spaces.specs.Table.{IsTableOf};
 ghost use Rattle.point_query.specs.Elements.{elements_of, elements_from_point, element_from_point, each_once, is_inside, then_root, ends_with};
 
 use crate::admission::admitted_element;
 use box_tree::{Item, Page, Viewport};
 use fractions::{Ledger, Steps};
+use spaces::SpaceTable;
 use stacking::layer_of;
 use std::alloc::Global;
 use std::collections::BTreeSet;
@@ -40,7 +41,7 @@ pub fn hit<L: Ledger>(
         return Err(OutOfMemory);
     };
     items.reverse();
-    let elements = admitted_elements(alloc, page, &items, x, y, steps)?;
+    let elements = admitted_elements(alloc, page, engine.spaces(), &items, x, y, steps)?;
     let mut ids = each_once(alloc, &elements)?;
     end_with(&mut ids, root)?;
     Ok(ids)
@@ -79,23 +80,24 @@ fn lies_between(least: i64, x: i64, most: i64) -> bool
     least <= x && x <= most
 }
 
-// The elements of those of some items that are admitted at a point, in their order.
+// The elements of those of some items that are admitted at a point, in their order, by the table of the page.
 fn admitted_elements<L: Ledger>(
     alloc: Global,
     page: &Page,
+    spaces: &SpaceTable,
     items: &[Item],
     x: i64,
     y: i64,
     steps: &mut Steps<L>,
 ) -> Result<Vec<u32>, OutOfMemory>
-    requires bounded { IsTrue (is_bounded page.now.contents) }
+    requires table { IsTableOf spaces.now page.now.contents }
     requires x { IsWithin 20 x }
     requires y { IsWithin 20 y }
     ensures { IfOk result (λ ids. ids.items ≡ elements_of page.now.contents x y items.now) }
 {
     let mut ids = Vec::new(alloc);
     for item in items {
-        push_some(&mut ids, admitted_element(page, *item, x, y, steps))?;
+        push_some(&mut ids, admitted_element(page, spaces, *item, x, y, steps))?;
     }
     Ok(ids)
 }
