@@ -1,5 +1,5 @@
 -- Products that are none once one of them passes the bound: where none does, they are the products.
-use Rattle.std.proofs.Common.{◌≡◌, List, [], ◌∷◌, ◌++◌, Option, Some, None, Bool, true, false, if◌then◌else◌, refl, sym, ap, ◌∙◌}
+use Rattle.std.proofs.Common.{◌≡◌, List, [], ◌∷◌, ◌++◌, Option, Some, None, Bool, true, false, if◌then◌else◌, refl, ap, ◌∙◌}
 use Rattle.std.specs.Prelude.{fold, ◌&&◌}
 use Rattle.std.specs.List.{list_all}
 use Rattle.affine.specs.declared.map.Parts.{Parts}
@@ -48,28 +48,6 @@ checked-fold start (factor ∷ factors) = by_tests (checked-fold (product start 
     by_tests deeper true true = deeper
     by_tests deeper true false = checked-none factors
     by_tests deeper false b = checked-none factors
-
-pub checked-all : (start : Parts) (factors : List Parts) → all_within start factors ≡ true → checked_products (Some start) factors ≡ Some (fold product start factors)
-checked-all start factors within = checked-fold start factors ∙ ap (λ (b : Bool). if b then Some (fold product start factors) else None) within
-
--- what is known where the products are some
-pub record IsChecked (m start : Parts) (factors : List Parts) : Type 0 where
-  pub value : fold product start factors ≡ m
-  pub within : all_within start factors ≡ true
-
-pub checked-some : (m start : Parts) (factors : List Parts) → checked_products (Some start) factors ≡ Some m → IsChecked m start factors
-checked-some m start factors is = by_test (all_within start factors) refl (sym (checked-fold start factors) ∙ is)
-  where
-    by_test : (b : Bool) → all_within start factors ≡ b → (if b then Some (fold product start factors) else None) ≡ Some m → IsChecked m start factors
-    by_test true within is' = record { value = cc; within = within }
-    by_test false within is' = absurd cc
-
-pub checked-nothing : (m : Parts) (factors : List Parts) → checked_products None factors ≡ Some m → ⊥
-checked-nothing m factors is = by_value (checked_products None factors) (checked-none factors) is
-  where
-    by_value : (o : Option Parts) → o ≡ None → o ≡ Some m → ⊥
-    by_value None none some = cc
-    by_value (Some k) none some = cc
 
 -- one factor, some others, and one more
 pub checked-between : (start : Option Parts) (first last : Parts) (factors : List Parts) → checked_products start (first ∷ (factors ++ last ∷ [])) ≡ then_product (checked_products (then_product start first) factors) last

@@ -1,7 +1,7 @@
 -- The values of a node from those of its parent.
 use Rattle.std.proofs.Common.{◌≡◌, ℕ, List, [], ◌∷◌, map, reverse, Option, Some, None, false, is_some, if◌then◌else◌, refl, sym, ap, ◌∙◌}
 use Rattle.std.specs.Prelude.{fold, unwrap_or, ℤ, IfSome}
-use Rattle.std.specs.Option.{option_map, option_map_or}
+use Rattle.std.specs.Option.{option_map_or}
 use Rattle.std.proofs.lemmas.List.{reverse-append}
 use Rattle.std.proofs.lemmas.List.Sums.{fold-append}
 use Rattle.computed_style.specs.declared.style.Style.{Style}
@@ -12,10 +12,8 @@ use Rattle.box_tree.specs.declared.node.Node.{Node}
 use Rattle.box_tree.specs.Forest.{Label, Placed}
 use Rattle.box_tree.specs.Contents.{Contents, node_of, placed_of, has_id, IsValid}
 use Rattle.box_tree.specs.Edited.{ancestors_below}
-use Rattle.box_tree.specs.Suits.{is_text}
-use Rattle.box_tree.proofs.PlacedLemmas.{seen_at}
 use Rattle.box_tree.proofs.ContainingLemmas.{standing, label-seen, ancestors-seen, above-seen}
-use Rattle.spaces.specs.Values.{values_along, values_below, values}
+use Rattle.spaces.specs.Values.{values_along, values}
 
 -- one node more, below the others
 pub values_along-cons : (n : Label) (above : List Label) → values_along (n ∷ above) ≡ computed (values_along above) n.style
@@ -48,11 +46,3 @@ module _ (page : Contents) (valid : IsValid page) (id : ℕ) (node : Node) (seen
       ∙ values_along-cons (standing page valid id node seen).label (standing page valid id node seen).above
       ∙ ap (λ (above : List Label). computed (values_along above) (standing page valid id node seen).label.style) (sym (above-seen page valid id node seen))
       ∙ ap (λ (l : Label). computed (values_along (ancestors_below page node.parent)) l.style) (sym (label-seen page valid id node seen))
-
-  -- the values of the node, by whether it is a text
-  pub values-seen : values page id ≡ Some (if is_text node.kind then values_along (ancestors_below page node.parent) else values_along (ancestors_below page id))
-  values-seen =
-      ap (λ (o : Option Placed). option_map (λ p. values_below p.above p.label) o) (seen_at page id node seen).found
-      ∙ ap (λ (l : Label). Some (if is_text l.kind then values_along (standing page valid id node seen).above else values_along ((standing page valid id node seen).label ∷ (standing page valid id node seen).above))) (sym (label-seen page valid id node seen))
-      ∙ ap (λ (above : List Label). Some (if is_text node.kind then values_along above else values_along ((standing page valid id node seen).label ∷ (standing page valid id node seen).above))) (sym (above-seen page valid id node seen))
-      ∙ ap (λ (nodes : List Label). Some (if is_text node.kind then values_along (ancestors_below page node.parent) else values_along nodes)) (sym (ancestors-seen page valid id node seen))

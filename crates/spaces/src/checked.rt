@@ -1,62 +1,23 @@
-// Spaces, and none once a product on the way there passes the bound.
-ghost use Rattle.std.specs.Prelude.{◌≡◌, All, IsTrue, Some, map};
+// Products on the way to a space, and none once one of them passes the bound.
+ghost use Rattle.std.specs.Prelude.{◌≡◌, All, map};
 ghost use Rattle.std.specs.Option.{option_map, option_copied, option_to_list};
 ghost use Rattle.affine.specs.Function.{function_map};
 ghost use Rattle.computed_style.specs.Ranges.{IsFunctionInRange};
-ghost use Rattle.box_tree.specs.Contents.{has_id, node_of, IsValid};
+ghost use Rattle.box_tree.specs.Contents.{node_of};
 ghost use Rattle.box_tree.specs.Kept.{label_of};
-ghost use Rattle.spaces.specs.Spaces.{inner_factors, view_factor, transform_around, doubled_origin, first_box, own_factors};
-ghost use Rattle.spaces.specs.Checked.{after_view, then_product, checked_products, checked_space, inner_factors_of, own_factors_of};
+ghost use Rattle.spaces.specs.Spaces.{inner_factors, view_factor, transform_around, doubled_origin, own_factors};
+ghost use Rattle.spaces.specs.Checked.{after_view, then_product, checked_products};
 ghost use Rattle.spaces.specs.Sizes.{HasNumbersInRange, IsOriginInRange};
 
 use crate::factors::{
-    doubled_origin, from_origin, moving_by, padding_corner, scroll_factor, scrolled, to_origin,
+    doubled_origin, from_origin, moving_by, padding_corner, scroll_factor, to_origin,
 };
 use crate::views::view_of;
-use affine::{Map, compose, identity, matrix};
-use box_tree::{Holder, Node, Page, has_acting_transform};
+use affine::{Map, compose, matrix};
+use box_tree::{Node, Page, has_acting_transform};
 use computed_style::{Function, Functions};
 use fractions::{Ledger, Spot, Steps};
 use view_boxes::ViewMap;
-
-// The space of a node, where no product on the way there passes the bound: along its containing blocks (CSS 2.2, 10.1),
-// at most 256 of them, as far as one whose space is known; id 0 stands for none.
-pub(crate) fn checked_space<L: Ledger>(
-    page: &Page,
-    id: u32,
-    known_id: u32,
-    known: Option<Map>,
-    steps: &mut Steps<L>,
-) -> Option<Map>
-    requires valid { IsValid page.now.contents }
-    requires there { IsTrue (has_id page.now.contents id) }
-    requires known { known ≡ checked_space page.now.contents known_id }
-    ensures { result ≡ checked_space page.now.contents id }
-{
-    if id == known_id {
-        return known;
-    }
-    match page.containing_block(id) {
-        Holder::Node { id: holder } => {
-            let outer = checked_space(page, holder, known_id, known, steps);
-            let around = inside(page, holder, outer, steps);
-            own_space(page, id, around, steps)
-        }
-        Holder::Initial => own_space(page, id, Some(scrolled(&page.viewport())), steps),
-        Holder::Viewport => own_space(page, id, Some(identity()), steps),
-    }
-}
-
-// From the space of the node of an id to where it places as a containing block.
-fn inside<L: Ledger>(page: &Page, id: u32, space: Option<Map>, steps: &mut Steps<L>) -> Option<Map>
-    requires valid { IsValid page.now.contents }
-    requires there { IsTrue (has_id page.now.contents id) }
-    ensures { result ≡ checked_products space (inner_factors_of page.now.contents id) }
-{
-    let node = page.node(id, steps);
-    let parent = find(page, node.parent, steps);
-    inner(space, parent, node)
-}
 
 // The factors of a containing block after a map: its padding corner, where it has a box, its scroll, where it clips, and its
 // viewBox.
@@ -101,22 +62,6 @@ fn some_product(outer: Option<Map>, factor: Option<Map>) -> Option<Map>
         Some(factor) => product(outer, &factor),
         None => outer,
     }
-}
-
-// From where a containing block places to the space of the node of an id.
-fn own_space<L: Ledger>(
-    page: &Page,
-    id: u32,
-    around: Option<Map>,
-    steps: &mut Steps<L>,
-) -> Option<Map>
-    requires valid { IsValid page.now.contents }
-    requires there { IsTrue (has_id page.now.contents id) }
-    ensures { result ≡ checked_products around (own_factors_of page.now.contents id) }
-{
-    let node = page.node(id, steps);
-    let parent = find(page, node.parent, steps);
-    own(around, parent, node)
 }
 
 // The node of an id, where it is in the page.

@@ -1,8 +1,8 @@
 // The table of the spaces of the nodes of a page and of the values that they inherit.
-ghost use Rattle.std.specs.Prelude.{◌≡◌, ◌^◌, ◌+◌, ◌<◌, ◌≤◌, ◌-◌, ◌∷◌, ◌++◌, ℕ, [], length, replicate, vec_len, None, Some, IsTrue, IsFalse, IsSome, IfSome, IfOk, IfErr, OnOk, All, if◌then◌else◌, ◌==◌, true};
+ghost use Rattle.std.specs.Prelude.{◌≡◌, ◌^◌, ◌+◌, ◌<◌, ◌≤◌, ◌-◌, ◌∷◌, ◌++◌, ℕ, [], length, None, Some, IsTrue, IsFalse, IsSome, IfSome, IfOk, IfErr, OnOk, All, if◌then◌else◌, ◌==◌, true};
 ghost use Rattle.std.specs.BTreeMap.{IsOrdered};
 ghost use Rattle.std.specs.Ordering.{nat_cmp};
-ghost use Rattle.std.specs.Option.{option_map, option_map_or, option_and_then, option_copied, option_or};
+ghost use Rattle.std.specs.Option.{option_map, option_map_or, option_copied, option_or};
 ghost use Rattle.affine.specs.Function.{AreWithin};
 ghost use Rattle.box_tree.specs.Forest.{node_count, End};
 ghost use Rattle.box_tree.specs.Contents.{has_id, tree_of, IsValid, IsWithin};
@@ -287,6 +287,3 @@ fn top_of(page: &Page, subtree: u32) -> Option<u32>
         None
     }
 }
-
-#[cfg(test)]
-mod tests;

@@ -1,31 +1,21 @@
 // The viewports that an svg and the svgs inside it make for their content.
-ghost use Rattle.std.specs.Prelude.{◌≡◌, pos, ◌*ℤ◌, IsTrue};
+ghost use Rattle.std.specs.Prelude.{◌≡◌, pos, ◌*ℤ◌};
 ghost use Rattle.std.specs.List.{list_all};
 ghost use Rattle.view_boxes.specs.Ranges.{IsPortInRange};
 ghost use Rattle.view_boxes.specs.Views.{IsViewMap};
 ghost use Rattle.box_tree.specs.declared.kind.Kind.TheVariants.{Svg, Inner};
 ghost use Rattle.computed_style.specs.Ranges.{IsSide as IsWidth};
-ghost use Rattle.box_tree.specs.Contents.{IsSide, IsValid, has_id};
+ghost use Rattle.box_tree.specs.Contents.{IsSide, IsValid};
 ghost use Rattle.box_tree.specs.Edited.{ancestors_below};
 ghost use Rattle.box_tree.specs.Kept.{label_of};
 ghost use Rattle.spaces.specs.Spaces.{disables, is_laid_out, no_port, padding_side, port_of, shows, viewport_width, viewport_height};
-ghost use Rattle.spaces.specs.Checked.{IsViewOf, has_space_at};
+ghost use Rattle.spaces.specs.Checked.{IsViewOf};
 ghost use Rattle.spaces.specs.Sizes.{HasNumbersInRange};
 
 use crate::factors::{bottom_border, first_box, left_border, right_border, top_border};
 use box_tree::{Form, Kind, Node, Page};
 use fractions::{Ledger, Steps};
 use view_boxes::{Port, ViewMap, view_box};
-
-// Whether the node of an id has a space: it is laid out, and each of its ancestors shows what is in it.
-pub(crate) fn has_space<L: Ledger>(page: &Page, id: u32, steps: &mut Steps<L>) -> bool
-    requires valid { IsValid page.now.contents }
-    requires there { IsTrue (has_id page.now.contents id) }
-    ensures { result ≡ has_space_at page.now.contents id }
-{
-    let node = page.node(id, steps);
-    is_laid_out(node.kind) && all_show(page, node.parent, steps)
-}
 
 // Whether the node of an id, where it is there, and its ancestors show what is in them.
 pub(crate) fn all_show<L: Ledger>(page: &Page, id: u32, steps: &mut Steps<L>) -> bool
