@@ -1,1 +1,1 @@
-pub mod BoundLemmas
+pub mod ReachLemmas

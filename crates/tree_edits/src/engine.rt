@@ -3,12 +3,14 @@ ghost use Rattle.box_tree.specs.declared.edit.EditFault.TheVariants.{OutOfMemory
 ghost use Rattle.box_tree.specs.Contents.{empty_page};
 ghost use Rattle.box_tree.specs.Edited.{IsInRange, edited, answer_of};
 ghost use Rattle.spaces.specs.Bound.{is_bounded};
-ghost use Rattle.tree_edits.specs.Edits.{first_fault};
-ghost use Rattle.tree_edits.specs.Near.{is_bounded_from, IsBoundAfter};
+ghost use Rattle.spaces.specs.Table.{IsTableOf};
+ghost use Rattle.tree_edits.specs.Edits.{first_fault, fault_of};
 
+use crate::reach::{removed_ids, renewed_node};
 use box_tree::{Done, Edit, EditFault, Page};
 use fractions::{Ledger, Steps};
-use spaces::{within, within_from};
+use spaces::laws::{frame_bound, frame_table};
+use spaces::{BoundOrMemory, SpaceTable};
 use std::alloc::{AllocError, AllocFailed, Global};
 use std::marker::Model;
 use thiserror::Error;
@@ -30,11 +32,13 @@ impl<T: Drop> From<AllocFailed<T>> for OutOfMemory {
     }
 }
 
-/// A page that is edited and queried, which clauses see as its contents. No partial product of any of its nodes passes the
-/// bound on maps.
+/// A page that is edited and queried, which clauses see as its contents, with the table of its spaces. No partial product of
+/// any of its nodes passes the bound on maps.
 #[derive(Drop)]
 pub struct Engine {
     page: Page,
+    spaces: SpaceTable,
+    alloc: Global,
 }
 
 impl Model for Engine {
@@ -49,10 +53,9 @@ impl Model for Engine {
 
     ghost view = { λ e. e.page.contents };
 
-    ghost use Rattle.std.specs.Prelude.{IsTrue};
-    ghost use Rattle.spaces.specs.Bound.{is_bounded};
+    ghost use Rattle.tree_edits.specs.Faithful.{IsFaithful};
 
-    ghost invariant = { λ e. IsTrue (is_bounded e.page.contents) };
+    ghost invariant = { λ e. IsFaithful e.page.contents e.spaces };
 }
 
 impl Engine {
@@ -62,15 +65,18 @@ impl Engine {
         requires height { (pos 1 ≤ℤ h) × (h ≤ℤ pos (2 ^ 20)) }
         ensures { IfOk result (λ engine. engine ≡ empty_page w h) }
     {
+        frame_table();
         Ok(Engine {
             page: Page::new(alloc, w, h),
+            spaces: SpaceTable::new(alloc),
+            alloc,
         })
     }
 
     /// Applies an edit, or refuses it by its first fault and changes nothing, the next id neither. An edit that a map on
     /// the way to a node would make pass the bound is carried out, found so and taken back. Want of memory may come in
     /// place of any other answer.
-    pub fn edit<L: Ledger>(&mut self, edit: &Edit, _steps: &mut Steps<L>) -> Result<Done, EditFault>
+    pub fn edit<L: Ledger>(&mut self, edit: &Edit, steps: &mut Steps<L>) -> Result<Done, EditFault>
         requires { IsInRange edit.now }
         ensures faultless { OnOk result (first_fault self.old edit.now ≡ None) }
         ensures edited { OnOk result (self.new ≡ edited self.old edit.now) }
@@ -78,15 +84,23 @@ impl Engine {
         ensures first_fault { IfErr result (λ why. why ≢ MemoryFault → first_fault self.old edit.now ≡ Some why) }
         ensures unchanged { OnErr result (self.new ≡ self.old) }
     {
+        frame_table();
+        frame_bound();
         self.page.validity();
         let prepared = self.page.check(edit)?;
-        let added = self.page.next_id();
+        let removed = removed_ids(self.alloc, &self.page, edit, steps)?;
+        let subtree = renewed_node(&self.page, edit);
         let undo = self.page.commit(prepared);
-        if is_bounded_after(&self.page, edit, added) {
-            Ok(self.page.settle(undo))
-        } else {
-            self.page.revert(undo);
-            Err(EditFault::Bound)
+        self.page.validity();
+        match self.spaces.renew(&self.page, subtree) {
+            Ok(change) => {
+                self.spaces.apply(change, removed.as_slice(), steps);
+                Ok(self.page.settle(undo))
+            }
+            Err(why) => {
+                self.page.revert(undo);
+                Err(fault_of(why))
+            }
         }
     }
 
@@ -97,34 +111,22 @@ impl Engine {
     {
         &self.page
     }
-}
 
-// Whether the page that an edit left is within the bound, where the page before it was: an edit changes no space but those
-// of the node that it names or adds, and of what is below that; without one of these, the spaces of all nodes.
-fn is_bounded_after(page: &Page, edit: &Edit, added: u32) -> bool
-    ensures { IsBoundAfter page.now.contents edit.now added result }
-{
-    page.validity();
-    match edit {
-        Edit::Add { .. } => is_bounded_from(page, added),
-        Edit::Remove { .. } => true,
-        Edit::Move { id, .. } => is_bounded_from(page, *id),
-        Edit::Place { id, .. } => is_bounded_from(page, *id),
-        Edit::Restyle { id, .. } => is_bounded_from(page, *id),
-        Edit::Reshape { id, .. } => is_bounded_from(page, *id),
-        Edit::Scroll { id, .. } => is_bounded_from(page, *id),
-        Edit::Resize { .. } | Edit::ScrollView { .. } => within(page),
+    /// The space of each node of the page as it stands, and the values that it inherits.
+    pub fn spaces(&self) -> &SpaceTable
+        ensures { IsTableOf result.now self.now }
+    {
+        &self.spaces
     }
 }
 
-// Whether the node of an id and all below it are within the bound, and where it isn't in the page, all nodes.
-fn is_bounded_from(page: &Page, id: u32) -> bool
-    ensures { result ≡ is_bounded_from page.now.contents id }
+// The fault of an edit that leaves spaces which can't be renewed.
+fn fault_of(why: BoundOrMemory) -> EditFault
+    ensures { result ≡ fault_of why }
 {
-    if page.has(id) {
-        within_from(page, id)
-    } else {
-        within(page)
+    match why {
+        BoundOrMemory::Bound => EditFault::Bound,
+        BoundOrMemory::OutOfMemory => EditFault::OutOfMemory,
     }
 }
 

@@ -1,0 +1,64 @@
+// What an edit reaches: the subtree whose spaces it changes, and the ids that it takes out.
+ghost use Rattle.std.specs.Prelude.{◌≡◌, ◌++◌, IfOk, OnOk};
+ghost use Rattle.box_tree.specs.Contents.{tree_of, IsValid};
+ghost use Rattle.box_tree.specs.Forest.{ids_in};
+ghost use Rattle.spaces.specs.Table.{removed_ids, renewed_node};
+
+use box_tree::{Edit, Page};
+use fractions::{Ledger, Steps};
+use std::alloc::{AllocError, Global};
+
+/// The node that an edit of the page changes, whose subtree is renewed then: the next id for an add, and 0, for the whole
+/// page, where it changes the viewport.
+pub(crate) fn renewed_node(page: &Page, edit: &Edit) -> u32
+    ensures { result ≡ renewed_node page.now.contents edit.now }
+{
+    match edit {
+        Edit::Add { .. } => page.next_id(),
+        Edit::Remove { id } => *id,
+        Edit::Move { id, .. } => *id,
+        Edit::Place { id, .. } => *id,
+        Edit::Restyle { id, .. } => *id,
+        Edit::Reshape { id, .. } => *id,
+        Edit::Scroll { id, .. } => *id,
+        Edit::Resize { .. } | Edit::ScrollView { .. } => 0,
+    }
+}
+
+/// The ids that an edit takes out of the page, in tree order. It takes one step for each.
+pub(crate) fn removed_ids<L: Ledger>(
+    alloc: Global,
+    page: &Page,
+    edit: &Edit,
+    steps: &mut Steps<L>,
+) -> Result<Vec<u32>, AllocError>
+    requires { IsValid page.now.contents }
+    ensures { IfOk result (λ ids. ids.items ≡ removed_ids page.now.contents edit.now) }
+{
+    let mut ids = Vec::new(alloc);
+    if let Edit::Remove { id } = edit {
+        push_ids(page, *id, &mut ids, steps)?;
+    }
+    Ok(ids)
+}
+
+// Appends the ids of a node and of all below it, in tree order.
+fn push_ids<L: Ledger>(
+    page: &Page,
+    id: u32,
+    ids: &mut Vec<u32>,
+    steps: &mut Steps<L>,
+) -> Result<(), AllocError>
+    requires { IsValid page.now.contents }
+    ensures { OnOk result (ids.new.items ≡ ids.old.items ++ ids_in (tree_of page.now.contents id)) }
+{
+    if !page.has(id) {
+        return Ok(());
+    }
+    let node = page.node(id, steps);
+    ids.push(id)?;
+    for child in node.children.as_slice() {
+        push_ids(page, *child, ids, steps)?;
+    }
+    Ok(())
+}
