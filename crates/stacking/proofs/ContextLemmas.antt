@@ -1,10 +1,10 @@
 -- The nearest stacking context above a node, one step up after another.
-use Rattle.std.proofs.Common.{◌≡◌, ◌≢◌, ℕ, ◌<◌, List, [], ◌∷◌, length, Option, Some, None, Bool, true, false, refl, sym, ap, ◌∙◌}
+use Rattle.std.proofs.Common.{◌≡◌, ℕ, List, [], Option, Some, false, sym, ap, ◌∙◌}
 use Rattle.std.specs.Prelude.{if◌then◌else◌}
 use Rattle.std.specs.Option.{option_map_or}
 use Rattle.box_tree.specs.declared.node.Node.{Node}
 use Rattle.box_tree.specs.Forest.{Label, Placed}
-use Rattle.box_tree.specs.Contents.{Contents, node_of, placed_of, has_id, ancestors_of, IsValid}
+use Rattle.box_tree.specs.Contents.{Contents, node_of, IsValid}
 use Rattle.box_tree.specs.Edited.{ancestors_below}
 use Rattle.box_tree.specs.Containing.{parent_of, makes_context}
 use Rattle.box_tree.specs.Used.{is_real_context}

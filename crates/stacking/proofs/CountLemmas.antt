@@ -1,5 +1,5 @@
 -- Whatever is counted, a layer has as many of it as the trees.
-use Rattle.std.proofs.Common.{◌≡◌, ℕ, zero, suc, ◌+◌, ◌<◌, ◌≤◌, List, [], ◌∷◌, ◌++◌, Bool, true, false, not, ◌&&◌, ◌||◌, refl, sym, ap, ◌∙◌, subst, arith}
+use Rattle.std.proofs.Common.{◌≡◌, ℕ, ◌+◌, ◌≤◌, List, [], ◌∷◌, ◌++◌, Bool, true, false, not, ◌&&◌, ◌||◌, refl, sym, ap, ◌∙◌, subst, arith}
 use Rattle.std.specs.Prelude.{if◌then◌else◌, ◌==◌, int_lt, pos, ℤ, Option, Some, None, is_some, cond, length, IsTrue}
 use Rattle.std.proofs.lemmas.Int.{ints}
 use Rattle.std.proofs.lemmas.Bool.{false≢true}
@@ -10,16 +10,15 @@ use Rattle.box_tree.specs.declared.kind.Kind.TheVariants.{Block, Inline, InlineB
 use Rattle.box_tree.specs.declared.piece.Piece.{Piece}
 use Rattle.computed_style.specs.declared.style.Position.{Position}
 use Rattle.box_tree.specs.declared.item.Item.{Item}
-use Rattle.box_tree.specs.declared.item.Part.TheVariants.{Box}
 use Rattle.box_tree.specs.Forest.{Label, Forest, End, Grow, Placed}
 use Rattle.box_tree.specs.Containing.{parent_of}
-use Rattle.box_tree.specs.Used.{is_floating, is_block_level, is_block_level_as, is_block_container, is_block_container_as, is_atomic, is_atomic_as, is_positioned, is_real_context, is_in_flow, position_as, takes_offsets, takes_out, used_position, may_make_context, may_float, has_context_style}
-use Rattle.stacking.specs.Painting.{is_text_kind, is_inline_kind, is_replaced_kind, is_entered, is_block, is_member, is_float, is_inline, is_atom, has_head, at, own, content, content_as, content_item, drawn, drawn_as, outlines, head, Paint, OneBox, Whole, LinePiece, Share, box_items, box_pieces, own_pieces, first_line, pieces_with, share_of, shares_of, shares_in, reach, blocks, floats, pieces, is_on_lower_line, level_of, is_on_lower_level, context_members, painted_piece, lines_with, body_with, flat, lines, body, context_list, painted_member, layer}
+use Rattle.box_tree.specs.Used.{is_floating, is_block_level, is_block_level_as, is_block_container, is_block_container_as, is_atomic_as, is_positioned, is_real_context, is_in_flow, position_as, takes_offsets, takes_out, used_position, may_make_context, may_float, has_context_style}
+use Rattle.stacking.specs.Painting.{is_text_kind, is_inline_kind, is_replaced_kind, is_entered, is_block, is_member, is_float, is_inline, is_atom, has_head, at, own, content, content_as, drawn, drawn_as, outlines, head, Whole, LinePiece, Share, box_items, box_pieces, own_pieces, first_line, pieces_with, shares_of, shares_in, reach, blocks, floats, pieces, is_on_lower_line, level_of, is_on_lower_level, context_members, painted_piece, flat, lines, body, painted_member, layer}
 use Rattle.stacking.specs.Sorting.{put_in_order, sorted_by}
 use Rattle.stacking.specs.Counting.{count, items_in, root_layer, AllItemsArePainted}
 use Rattle.computed_style.specs.Defaults.{is_empty, has_initial_flow}
 use Rattle.box_tree.specs.Suits.{may_hold, kind_suits, box_count_suits, is_below_root, is_text, is_flow, is_area, is_svg_content, style_suits}
-use Rattle.box_tree.specs.Contents.{Contents, IsValid, IsSuited}
+use Rattle.box_tree.specs.Contents.{IsSuited}
 use Rattle.box_tree.specs.Forest.{EachNode, roots_of}
 use Rattle.stacking.proofs.LevelLemmas.{flat-is, layer-is}
 use Rattle.stacking.proofs.ShareLemmas.{Throughout}

@@ -1,6 +1,6 @@
 -- What is gathered from a child: what it gives itself, and then what is below it.
-use Rattle.std.proofs.Common.{◌≡◌, ℕ, ◌+◌, ◌<◌, ◌≤◌, List, [], ◌∷◌, ◌++◌, length, get_or, map, Option, Some, None, Bool, true, false, cond, refl, sym, ap, ◌∙◌, subst, arith, append_assoc}
-use Rattle.std.specs.Prelude.{if◌then◌else◌, not, ◌&&◌, pos}
+use Rattle.std.proofs.Common.{◌≡◌, ℕ, ◌+◌, ◌<◌, ◌≤◌, List, [], ◌∷◌, ◌++◌, length, get_or, map, Option, Some, Bool, true, false, cond, refl, sym, ap, ◌∙◌, subst, append_assoc}
+use Rattle.std.specs.Prelude.{if◌then◌else◌, ◌&&◌, pos}
 use Rattle.std.specs.List.{filter, flat_map}
 use Rattle.std.proofs.lemmas.List.{append-nil, map-append}
 use Rattle.std.proofs.lemmas.List.Elements.{filter-append}
@@ -17,9 +17,9 @@ use Rattle.stacking.specs.declared.pieces.Painted.TheVariants as painted
 use Rattle.stacking.specs.declared.pieces.LineRole.{LineRole}
 use Rattle.stacking.specs.declared.pieces.LineRole.TheVariants as role
 use Rattle.stacking.specs.declared.members.Member.{Member}
-use Rattle.stacking.specs.Painting.{LinePiece, Whole, Share, at, is_text_kind, is_entered, is_block, is_float, is_member, is_inline, is_atom, own_pieces, first_line, pieces_with, share_of, shares_in, drawn}
+use Rattle.stacking.specs.Painting.{Whole, Share, at, is_text_kind, is_entered, is_member, is_inline, is_atom, own_pieces, first_line, shares_in, drawn}
 use Rattle.stacking.specs.OnPage.{of_node, ids_of, gathered_in, gathered, part_of, line_parts, member_of, members_of, outlines_of}
-use Rattle.stacking.proofs.PageLemmas.{gathered_from, shared, here, child_place, child-there, of_node-child, gathered-step, role-seen, child_label-seen, id-child, gathered-end}
+use Rattle.stacking.proofs.PageLemmas.{gathered_from, shared, child_place, child-there, of_node-child, gathered-step, role-seen, child_label-seen, id-child, gathered-end}
 
 -- a list with two parts appended, before what is left
 appended_twice : {A : Type 0} (x a b rest all x' x'' : List A) → x' ≡ x ++ a → x'' ≡ x' ++ b → x ++ ((a ++ b) ++ rest) ≡ all → x'' ++ rest ≡ all

@@ -1,12 +1,11 @@
 -- The walks go through all levels: the rules hold of them without a count.
-use Rattle.std.proofs.Common.{◌≡◌, ℕ, zero, suc, ◌+◌, ◌<◌, ◌≤◌, max, List, [], ◌∷◌, ◌++◌, Bool, true, false, refl, sym, ap, ◌∙◌, arith}
+use Rattle.std.proofs.Common.{◌≡◌, ℕ, zero, suc, ◌<◌, ◌≤◌, List, ◌∷◌, ◌++◌, Bool, refl, ap, ◌∙◌, arith}
 use Rattle.std.specs.Prelude.{if◌then◌else◌, not, ◌&&◌, int_lt, pos}
-use Rattle.std.specs.List.{filter, flat_map, AllByRecursion}
-use Rattle.box_tree.specs.declared.piece.Piece.{Piece}
+use Rattle.std.specs.List.{filter, flat_map}
 use Rattle.box_tree.specs.declared.item.Item.{Item}
 use Rattle.box_tree.specs.Forest.{Label, Forest, End, Grow, Placed, height_of}
 use Rattle.box_tree.specs.Used.{is_real_context}
-use Rattle.stacking.specs.Painting.{Paint, OneBox, Whole, LinePiece, at, is_replaced_kind, own, content, head, blocks, floats, pieces, is_on_lower_line, level_of, context_members, painted_piece, lines_with, body_with, flat_to, flat, lines, body, context_list, painted_member, layer_to, layer}
+use Rattle.stacking.specs.Painting.{Paint, OneBox, Whole, LinePiece, at, is_replaced_kind, own, content, head, blocks, floats, pieces, is_on_lower_line, level_of, context_members, painted_piece, lines_with, body_with, flat_to, flat, body, context_list, painted_member, layer_to, layer}
 use Rattle.stacking.specs.Sorting.{sorted_by}
 use Rattle.stacking.proofs.ListLemmas.{each-filter, flat_map-same}
 use Rattle.stacking.proofs.ShareLemmas.{Throughout, HoldsOfPaint, HoldsOfPiece, of-blocks, of-floats, of-pieces, of-members}

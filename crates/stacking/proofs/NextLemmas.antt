@@ -1,5 +1,5 @@
 -- The lists along which a walk goes: each node of them is found on the page, with fewer levels below it.
-use Rattle.std.proofs.Common.{◌≡◌, ℕ, zero, suc, ◌+◌, ◌<◌, ◌≤◌, max, List, [], ◌∷◌, ◌++◌, length, get_or, drop, map, Option, Some, None, Bool, true, false, is_some, refl, sym, ap, ◌∙◌, subst, arith, append_assoc}
+use Rattle.std.proofs.Common.{◌≡◌, ℕ, zero, suc, ◌+◌, ◌<◌, ◌≤◌, List, [], ◌∷◌, ◌++◌, length, get_or, drop, map, Option, Some, None, Bool, true, false, is_some, refl, sym, ap, ◌∙◌, subst, arith, append_assoc}
 use Rattle.std.specs.Prelude.{if◌then◌else◌, cond}
 use Rattle.std.specs.List.{filter, flat_map, AllByRecursion}
 use Rattle.std.specs.Option.{option_map_or}
@@ -8,13 +8,11 @@ use Rattle.box_tree.specs.declared.item.Item.{Item}
 use Rattle.box_tree.specs.Forest.{Label, Forest, End, Grow, Placed, height_of}
 use Rattle.box_tree.specs.Contents.{Contents, placed_of, has_id, below_of, IsValid}
 use Rattle.box_tree.proofs.PlacedLemmas.{AreAtPlaces, found-at_places}
-use Rattle.stacking.specs.declared.pieces.LinePart.{LinePart}
-use Rattle.stacking.specs.declared.pieces.Painted.{Painted}
 use Rattle.stacking.specs.declared.pieces.Painted.TheVariants as painted
 use Rattle.stacking.specs.declared.members.Member.{Member}
-use Rattle.stacking.specs.Painting.{Paint, OneBox, Whole, LinePiece, at, blocks, floats, flat, layer, painted_piece, painted_member, context_members}
+use Rattle.stacking.specs.Painting.{Paint, OneBox, Whole, LinePiece, OneItem, SubContext, at, blocks, floats, flat, layer, painted_piece, painted_member, listed_member, context_members}
 use Rattle.box_tree.specs.Used.{is_real_context}
-use Rattle.stacking.specs.OnPage.{of_node, ids_of, part_of, line_pieces, member_of}
+use Rattle.stacking.specs.OnPage.{of_node, part_of, line_pieces, member_of}
 use Rattle.stacking.proofs.ShareLemmas.{Throughout, HoldsOfPaint, HoldsOfPiece, of-blocks, of-floats, of-pieces, of-members}
 
 -- a node that is found on the page, with fewer levels below it
@@ -145,3 +143,9 @@ member-gives page h m y holds is =
     ap (λ (z : Member). if z.is_context then of_node layer page z.node else of_node flat page z.node) is
     ∙ ap (λ xs. if at is_real_context m then xs else of_node flat page m.label.id) (gives page h m holds m.label.id refl layer)
     ∙ ap (λ xs. if at is_real_context m then layer m else xs) (gives page h m holds m.label.id refl flat)
+
+-- and which entries
+pub member-lists : (page : Contents) (h : ℕ) (m : Placed) (y : Member) → IsFoundBelow page h m → y ≡ member_of m → (if y.is_context then SubContext y.node ∷ [] else map OneItem (of_node flat page y.node)) ≡ listed_member m
+member-lists page h m y holds is =
+    ap (λ (z : Member). if z.is_context then SubContext z.node ∷ [] else map OneItem (of_node flat page z.node)) is
+    ∙ ap (λ xs. if at is_real_context m then SubContext m.label.id ∷ [] else map OneItem xs) (gives page h m holds m.label.id refl flat)

@@ -1,21 +1,18 @@
 -- The nodes of a valid page by their ids: their places, their parents, and what is gathered from their children.
-use Rattle.std.proofs.Common.{◌≡◌, ◌≢◌, ℕ, zero, suc, ◌+◌, ◌-◌, ◌<◌, ◌≤◌, ◌^◌, ◌==◌, List, [], ◌∷◌, ◌++◌, length, get_or, map, Option, Some, None, Bool, true, false, cond, IsTrue, is_some, inl, inr, refl, sym, ap, ◌∙◌, subst, arith}
-use Rattle.std.specs.Prelude.{if◌then◌else◌}
+use Rattle.std.proofs.Common.{◌≡◌, ◌≢◌, ℕ, ◌+◌, ◌<◌, ◌≤◌, ◌^◌, List, [], ◌∷◌, ◌++◌, length, get_or, Option, Some, None, true, is_some, inl, inr, refl, sym, ap, ◌∙◌, subst, arith}
 use Rattle.std.specs.List.{flat_map}
 use Rattle.std.specs.Option.{option_map, option_map_or}
-use Rattle.std.proofs.lemmas.List.{append-nil}
-use Rattle.std.proofs.lemmas.Bool.Decides.{nat_tests}
 use Rattle.box_tree.specs.declared.node.Node.{Node}
 use Rattle.box_tree.specs.declared.piece.Piece.{Piece}
-use Rattle.box_tree.specs.Forest.{Label, Forest, End, Grow, Placed, EachNode}
-use Rattle.box_tree.specs.Contents.{Contents, node_at, node_of, placed_of, has_id, ancestors_of, ancestor_count, parent_id, IsValid, IsGiven, IsSuited}
+use Rattle.box_tree.specs.Forest.{Label, Placed}
+use Rattle.box_tree.specs.Contents.{Contents, node_at, node_of, placed_of, has_id, ancestors_of, parent_id, IsValid, IsGiven, IsSuited}
 use Rattle.box_tree.specs.Kept.{label_of}
 use Rattle.box_tree.proofs.PlacedLemmas.{id-placed_in, trees_from, trees_from-all, IsChildAt, page-at_places}
 use Rattle.box_tree.proofs.SubtreeLemmas.{at_place, place, the_child, children_is, parent_above, IsAbove}
 use Rattle.box_tree.proofs.MoveLemmas.{each-placed}
 use Rattle.box_tree.specs.Containing.{parent_of}
 use Rattle.stacking.specs.Painting.{Share, at, share_of, shares_of, shares_in}
-use Rattle.stacking.specs.OnPage.{of_node, gathered_in, gathered}
+use Rattle.stacking.specs.OnPage.{of_node}
 
 -- what is gathered from the children from one on
 abbrev pub gathered_from : {A : Type 0} → (Share → List A) → ℕ → Placed → List A

@@ -1,8 +1,8 @@
 -- The parts of a walk as they are read on the page.
-use Rattle.std.proofs.Common.{◌≡◌, ℕ, suc, ◌+◌, ◌<◌, ◌≤◌, List, [], ◌∷◌, ◌++◌, length, map, Option, Some, None, Bool, true, false, Result, Ok, Err, refl, sym, ap, ◌∙◌, append_assoc}
+use Rattle.std.proofs.Common.{◌≡◌, ℕ, List, [], ◌++◌, map, Option, Some, None, Bool, true, false, Result, Ok, Err, refl, sym, ap, ◌∙◌, append_assoc}
 use Rattle.std.specs.Prelude.{if◌then◌else◌, IfOk}
 use Rattle.std.specs.List.{filter, flat_map}
-use Rattle.std.specs.Option.{option_map, option_map_or}
+use Rattle.std.specs.Option.{option_map_or}
 use Rattle.std.proofs.lemmas.List.{map-append}
 use Rattle.box_tree.specs.declared.kind.Kind.{Kind}
 use Rattle.box_tree.specs.declared.kind.Kind.TheVariants.{Block, Inline, InlineBlock, Image, Svg, Text, Map, Area, Group, Shape, Inner}
@@ -11,13 +11,13 @@ use Rattle.box_tree.specs.declared.item.Item.{Item}
 use Rattle.box_tree.specs.Forest.{Label, Placed}
 use Rattle.box_tree.specs.Contents.{Contents, node_of, placed_of, ancestors_of, IsValid}
 use Rattle.box_tree.specs.Kept.{label_of}
-use Rattle.stacking.specs.declared.pieces.LinePart.{LinePart}
-use Rattle.stacking.specs.declared.members.Member.{Member}
 use Rattle.box_tree.specs.Containing.{parent_of}
-use Rattle.stacking.specs.Painting.{at, has_head, is_inline, is_replaced_kind, is_block, is_float, box_items, own, content_item, content_as, content, head, own_pieces, shares_in, reach, blocks, floats, pieces, context_members, level_of, is_on_lower_level, is_on_lower_line, painted_piece, painted_member, lines, flat, body, context_list, layer}
+use Rattle.stacking.specs.Painting.{at, has_head, is_inline, is_replaced_kind, box_items, own, content_item, content_as, content, head, own_pieces, shares_in, reach, blocks, floats, pieces, context_members, is_on_lower_level, is_on_lower_line, painted_piece, painted_member, lines, flat, body, layer, ContextEntry, OneItem, listed_member, entries}
 use Rattle.stacking.specs.Sorting.{sorted_by}
 use Rattle.stacking.specs.OnPage.{of_node, ids_of, gathered_in, gathered, part_of, line_parts, line_pieces, member_of, members_of, outlines_of, on_side}
+use Rattle.stacking.specs.declared.layer.Side.{Side}
 use Rattle.stacking.specs.declared.layer.Side.TheVariants as side
+use Rattle.stacking.proofs.ListLemmas.{map-flat_map}
 use Rattle.stacking.proofs.LevelLemmas.{flat-is, layer-is}
 use Rattle.stacking.proofs.PageLemmas.{here, of_node-seen, label-seen, ancestors-seen}
 use Rattle.stacking.proofs.GatherLemmas.{met_ids, ids-met, pieces-gathered, members-gathered}
@@ -164,3 +164,33 @@ module _ (page : Contents) (id : ℕ) where
           ++ (flat_map (painted_member layer) (filter (on_side side.Zero) (option_map_or context_members o [])) ++ flat_map (painted_member layer) (filter (on_side side.Above) (option_map_or context_members o [])))))
       by_place None = refl
       by_place (Some p) = layer-is p
+
+  -- what is made of each entry of its list
+  pub list-on : {E : Type 0} (h : ContextEntry → E) → map h (of_node entries page id) ≡ map h (map OneItem (of_node head page id)) ++ (flat_map (λ m. map h (listed_member m)) (filter (on_side side.Below) (of_node context_members page id)) ++ (map h (map OneItem (of_node body page id))
+      ++ (flat_map (λ m. map h (listed_member m)) (filter (on_side side.Zero) (of_node context_members page id)) ++ flat_map (λ m. map h (listed_member m)) (filter (on_side side.Above) (of_node context_members page id)))))
+  list-on {E} h = by_place (placed_of page id)
+    where
+      on : Side → List Placed → List E
+      on s ms = flat_map (λ m. map h (listed_member m)) (filter (on_side s) ms)
+
+      listed : Side → List Placed → List ContextEntry
+      listed s ms = flat_map listed_member (filter (on_side s) ms)
+
+      each : (s : Side) (ms : List Placed) → map h (listed s ms) ≡ on s ms
+      each s ms = map-flat_map h listed_member (filter (on_side s) ms)
+
+      by_place : (o : Option Placed) → map h (option_map_or entries o []) ≡ map h (map OneItem (option_map_or head o [])) ++ (on side.Below (option_map_or context_members o []) ++ (map h (map OneItem (option_map_or body o []))
+          ++ (on side.Zero (option_map_or context_members o []) ++ on side.Above (option_map_or context_members o []))))
+      by_place None = refl
+      by_place (Some p) =
+          let ms = context_members p in
+          map-append h (map OneItem (head p)) (listed side.Below ms ++ (map OneItem (body p) ++ (listed side.Zero ms ++ listed side.Above ms)))
+          ∙ ap (λ xs. map h (map OneItem (head p)) ++ xs) (
+          map-append h (listed side.Below ms) (map OneItem (body p) ++ (listed side.Zero ms ++ listed side.Above ms))
+          ∙ ap (λ xs. xs ++ map h (map OneItem (body p) ++ (listed side.Zero ms ++ listed side.Above ms))) (each side.Below ms)
+          ∙ ap (λ xs. on side.Below ms ++ xs) (
+          map-append h (map OneItem (body p)) (listed side.Zero ms ++ listed side.Above ms)
+          ∙ ap (λ xs. map h (map OneItem (body p)) ++ xs) (
+          map-append h (listed side.Zero ms) (listed side.Above ms)
+          ∙ ap (λ xs. xs ++ map h (listed side.Above ms)) (each side.Zero ms)
+          ∙ ap (λ xs. on side.Zero ms ++ xs) (each side.Above ms))))

@@ -1,9 +1,8 @@
 -- What holds of each node of some trees in its place holds of each node that the walks meet there.
-use Rattle.std.proofs.Common.{◌≡◌, ℕ, ◌+◌, List, [], ◌∷◌, ◌++◌, Bool, true, false}
-use Rattle.std.specs.Prelude.{if◌then◌else◌, not, ◌&&◌}
-use Rattle.std.specs.List.{filter, flat_map, AllByRecursion}
+use Rattle.std.proofs.Common.{ℕ, ◌+◌, List, [], ◌∷◌, ◌++◌}
+use Rattle.std.specs.Prelude.{if◌then◌else◌, ◌&&◌}
+use Rattle.std.specs.List.{flat_map, AllByRecursion}
 use Rattle.box_tree.specs.declared.piece.Piece.{Piece}
-use Rattle.box_tree.specs.declared.item.Item.{Item}
 use Rattle.box_tree.specs.Forest.{Label, Forest, End, Grow, Placed}
 use Rattle.box_tree.specs.Used.{is_in_flow, is_real_context}
 use Rattle.stacking.specs.Painting.{Paint, OneBox, Whole, LinePiece, Share, at, is_text_kind, is_replaced_kind, is_inline, is_atom, is_entered, is_block, is_float, is_member, box_pieces, own_pieces, first_line, pieces_with, share_of, shares_of, shares_in, reach, blocks, floats, pieces, is_on_lower_line, is_on_lower_level, context_members}

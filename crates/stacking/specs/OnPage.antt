@@ -1,9 +1,9 @@
 -- The walks of the nodes of a page, by their ids.
-use Rattle.std.specs.Prelude.{ℕ, List, [], ◌∷◌, map, Option, Bool, false, not, ◌&&◌, Some, None, ℤ, pos, int_lt}
+use Rattle.std.specs.Prelude.{ℕ, List, [], map, Bool, not, ◌&&◌, ℤ, pos, int_lt}
 use Rattle.std.specs.List.{filter, flat_map}
 use Rattle.std.specs.Option.{option_map_or}
 use Rattle.box_tree.specs.declared.item.Item.{Item}
-use Rattle.box_tree.specs.Forest.{Label, Placed}
+use Rattle.box_tree.specs.Forest.{Placed}
 use Rattle.box_tree.specs.Contents.{Contents, placed_of}
 use Rattle.box_tree.specs.Used.{is_real_context}
 use Rattle.stacking.specs.declared.pieces.LinePart.{LinePart}

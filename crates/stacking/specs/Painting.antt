@@ -1,5 +1,5 @@
 -- The painting order (CSS 2.2, Appendix E): what of a page is painted above what. All lists are from bottom to top.
-use Rattle.std.specs.Prelude.{ℕ, zero, suc, ◌+◌, List, [], ◌∷◌, ◌++◌, map, Option, Some, None, Bool, true, false, not, ◌&&◌, ◌||◌, if◌then◌else◌, ℤ, pos, int_lt, nat_lt}
+use Rattle.std.specs.Prelude.{ℕ, zero, suc, ◌+◌, List, [], ◌∷◌, ◌++◌, map, Option, Bool, true, false, not, ◌&&◌, ◌||◌, if◌then◌else◌, ℤ, pos, int_lt, nat_lt}
 use Rattle.std.specs.List.{filter, flat_map}
 use Rattle.box_tree.specs.declared.kind.Kind.{Kind}
 use Rattle.box_tree.specs.declared.kind.Kind.TheVariants.{Inline, Image, Svg, Text}
@@ -245,6 +245,10 @@ pub data ContextEntry : Type 0 where
   OneItem : Item → ContextEntry
   SubContext : ℕ → ContextEntry
 
+-- a member that is a stacking context is one entry, another is painted flat
+abbrev pub listed_member : Placed → List ContextEntry
+listed_member m = if at is_real_context m then SubContext m.label.id ∷ [] else map OneItem (flat m)
+
 -- the layer of a stacking context with each member that is one left as an entry
 abbrev pub entries : Placed → List ContextEntry
-entries p = context_list (map OneItem) (λ m. if at is_real_context m then SubContext m.label.id ∷ [] else map OneItem (flat m)) p
+entries p = context_list (map OneItem) listed_member p

@@ -15,9 +15,9 @@ use crate::roles::is_replaced;
 use box_tree::{Item, Page};
 use std::alloc::Global;
 
-// The levels of members: those below 0, 0 itself, and those above it.
+/// The levels of members: those below 0, 0 itself, and those above it.
 #[derive(Clone, Copy)]
-enum Side {
+pub(crate) enum Side {
     Below,
     Zero,
     Above,
@@ -79,7 +79,7 @@ fn paint_members(
 }
 
 // Whether a member is on one side of level 0.
-fn is_on_side(side: Side, member: Member) -> bool
+pub(crate) fn is_on_side(side: Side, member: Member) -> bool
     ensures { result ≡ is_on_side side member.level }
 {
     match side {
@@ -110,7 +110,12 @@ fn paint_member(
 
 // Appends a node painted as one, without its members.
 #[cycle(walks)]
-fn paint_flat(alloc: Global, page: &Page, id: u32, items: &mut Vec<Item>) -> Result<(), OutOfMemory>
+pub(crate) fn paint_flat(
+    alloc: Global,
+    page: &Page,
+    id: u32,
+    items: &mut Vec<Item>,
+) -> Result<(), OutOfMemory>
     requires valid { IsValid page.now.contents }
     requires there { IsTrue (has_id page.now.contents id) }
     ensures { IfOk result (λ _. items.new.items ≡ items.old.items ++ of_node flat page.now.contents id) }
@@ -121,7 +126,12 @@ fn paint_flat(alloc: Global, page: &Page, id: u32, items: &mut Vec<Item>) -> Res
 
 // Appends the boxes of the blocks in a node; the floats; its lines, and those of the blocks.
 #[cycle(walks)]
-fn paint_body(alloc: Global, page: &Page, id: u32, items: &mut Vec<Item>) -> Result<(), OutOfMemory>
+pub(crate) fn paint_body(
+    alloc: Global,
+    page: &Page,
+    id: u32,
+    items: &mut Vec<Item>,
+) -> Result<(), OutOfMemory>
     requires valid { IsValid page.now.contents }
     requires there { IsTrue (has_id page.now.contents id) }
     ensures { IfOk result (λ _. items.new.items ≡ items.old.items ++ of_node body page.now.contents id) }

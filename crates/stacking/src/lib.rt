@@ -10,6 +10,7 @@ mod context;
 mod items;
 pub mod laws;
 mod layer;
+mod lists;
 mod members;
 mod memory;
 mod pieces;
@@ -19,4 +20,5 @@ mod roles;
 
 pub use context::context_of;
 pub use layer::layer_of;
+pub use lists::lists_of;
 pub use memory::OutOfMemory;

@@ -1,5 +1,5 @@
 -- The boxes are those of the node in its place.
-use Rattle.std.proofs.Common.{ap, ◌++◌, ◌∙◌, sym, true, false, Some}
+use Rattle.std.proofs.Common.{ap, ◌++◌, ◌∙◌, sym, true, false}
 use Rattle.std.proofs.lemmas.List.{append-nil}
 use Rattle.stacking.proofs.PageLemmas.{few_boxes}
 use Rattle.stacking.proofs.SeenLemmas.{head-seen}

@@ -1,9 +1,8 @@
 -- A stacking context: its members on the two sides of level 0 and on it, around its body.
-use Rattle.std.proofs.Common.{refl, sym, ap, ◌++◌, ◌∙◌, ◌+◌, arith, true, false, pos, ℕ, List, Vec, Global}
+use Rattle.std.proofs.Common.{sym, ap, ◌++◌, ◌∙◌, arith, true, false, pos, Vec, Global}
 use Rattle.std.proofs.lemmas.List.{append-nil}
 use Rattle.std.specs.List.{filter, flat_map}
 use Rattle.box_tree.specs.declared.item.Item.{Item}
-use Rattle.box_tree.specs.Forest.{Placed}
 use Rattle.stacking.specs.declared.members.Member.{Member}
 use Rattle.stacking.specs.declared.layer.Side.TheVariants as side
 use Rattle.stacking.specs.Painting.{head, body, layer, painted_member, context_members}

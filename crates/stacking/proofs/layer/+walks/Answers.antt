@@ -1,5 +1,5 @@
 -- The walks go down: what a list names has fewer levels below it than the node whose list it is.
-use Rattle.std.proofs.Common.{refl, sym, ap, ◌++◌, ◌∙◌, ◌+◌, arith, true, false, ℕ, List, append_assoc, Vec, Global}
+use Rattle.std.proofs.Common.{sym, ap, ◌++◌, ◌∙◌, arith, true, false, append_assoc, Vec, Global}
 use Rattle.std.specs.List.{flat_map}
 use Rattle.box_tree.specs.declared.item.Item.{Item}
 use Rattle.box_tree.specs.Forest.{Placed}

@@ -1,5 +1,5 @@
 -- One block after another.
-use Rattle.std.proofs.Common.{refl, ap, ◌++◌, ◌∙◌, ℕ}
+use Rattle.std.proofs.Common.{refl, ap, ◌++◌, ◌∙◌}
 use Rattle.box_tree.specs.Forest.{Placed}
 use Rattle.stacking.specs.Painting.{own, blocks}
 use Rattle.stacking.specs.OnPage.{of_node}

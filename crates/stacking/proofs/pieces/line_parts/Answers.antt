@@ -1,6 +1,5 @@
 -- The pieces of the node and of its children, and then in the order of their lines.
 use Rattle.std.proofs.Common.{◌≡◌, ap, ◌++◌, ◌∙◌, sym, true, false, map, Vec, Global, rules}
-use Rattle.std.proofs.lemmas.List.{append-nil}
 use Rattle.std.proofs.lemmas.List.Sorted.{answers_always}
 use Rattle.stacking.specs.declared.pieces.LinePart.{LinePart}
 use Rattle.box_tree.specs.Kept.{label_of}

@@ -1,5 +1,5 @@
 -- The pieces of the boxes that are left begin with that of the next.
-use Rattle.std.proofs.Common.{ap, ◌++◌, ◌∙◌}
+use Rattle.std.proofs.Common.{ap, ◌++◌}
 use Rattle.stacking.proofs.BoxLemmas.{parts_from, parts_from-more, parts_from-all}
 use Rattle.stacking.proofs.pieces.push_boxes.Goals as goal
 

@@ -1,6 +1,5 @@
 -- What is met below a node that isn't replaced.
-use Rattle.std.proofs.Common.{ap, ◌++◌, ◌∙◌, sym, true, false, not, ℕ, Vec, Global}
-use Rattle.std.proofs.lemmas.Bool.{false≢true}
+use Rattle.std.proofs.Common.{ap, ◌++◌, ◌∙◌, sym, true, false, ℕ, Vec, Global}
 use Rattle.stacking.specs.Painting.{is_block, is_float}
 use Rattle.stacking.specs.OnPage.{gathered, block_ids, float_ids}
 use Rattle.stacking.proofs.SeenLemmas.{met-seen}
