@@ -7,7 +7,7 @@ use Rattle.box_tree.specs.Edited.{edited}
 use Rattle.box_tree.specs.Planned.{is_among}
 use Rattle.spaces.specs.declared.table.entry.Entry.{Entry}
 use Rattle.spaces.specs.Bound.{is_bounded}
-use Rattle.spaces.specs.Frame.{IsFaultless}
+use Rattle.box_tree.specs.Frame.{IsFaultless}
 use Rattle.spaces.specs.Table.{is_bounded_in, new_entry, renewed_entry, renewed_node, removed_ids, applied, IsTableOf}
 use Rattle.tree_edits.specs.Faithful.{IsFaithful}
 use Rattle.tree_edits.proofs.ReachLemmas.{removed-apart}
