@@ -22,3 +22,6 @@ mod views;
 pub use factors::{bottom_border, left_border, right_border, top_border};
 pub use space::FinePoint;
 pub use table::{BoundOrMemory, SpaceChange, SpaceTable};
+
+#[cfg(test)]
+mod tests;
