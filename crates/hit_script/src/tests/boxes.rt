@@ -104,3 +104,21 @@ pub const ROUNDED_CONTENT: &[u8] =
 
 pub const ROUNDED_CONTENT_REPLIES: &[u8] =
     b"node 1\nnode 2\nnode 3\nhit 3 1\nhit 3 2 1\nhit 3 2 1\nhit 2 3 1\n";
+
+/// What holds an absolute node changes with the position of an ancestor, and once a move takes it away from that ancestor.
+pub const HELD: &[u8] =
+    br#"{"op":"add","parent":0,"at":0,"kind":"block","boxes":[[0,0,0,100,100]],"style":{}}
+{"op":"add","parent":1,"at":0,"kind":"block","boxes":[[0,10,10,50,50]],"style":{}}
+{"op":"add","parent":2,"at":0,"kind":"block","boxes":[[0,0,0,40,40]],"style":{}}
+{"op":"add","parent":3,"at":0,"kind":"block","boxes":[[0,0,0,5,5]],"style":{"position":"absolute"}}
+{"op":"hit","x":2,"y":2}
+{"op":"style","id":2,"style":{"position":"relative"}}
+{"op":"hit","x":2,"y":2}
+{"op":"hit","x":12,"y":12}
+{"op":"move","id":3,"parent":1,"at":1}
+{"op":"hit","x":2,"y":2}
+{"op":"hit","x":12,"y":12}
+"#;
+
+pub const HELD_REPLIES: &[u8] =
+    b"node 1\nnode 2\nnode 3\nnode 4\nhit 4 1\nok\nhit 1\nhit 4 3 2 1\nok\nhit 4 3 1\nhit 2 3 1\n";

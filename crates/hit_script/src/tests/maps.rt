@@ -89,3 +89,31 @@ pub const AT_THE_BOUND: &[u8] =
 
 pub const AT_THE_BOUND_REPLIES: &[u8] =
     b"node 1\nnode 2\nhit 2 1\nerr 11 bound\nhit 2 1\nok\nerr 11 bound\nerr 11 bound\nhit 1\nok\nhit 2 1\n";
+
+/// A style and a move that would double a map at the bound further in are refused, and leave all below the node where it is;
+/// without that map the style is taken.
+pub const REFUSED_ABOVE: &[u8] =
+    br#"{"op":"add","parent":0,"at":0,"kind":"block","boxes":[[0,0,0,100,100]],"style":{}}
+{"op":"add","parent":1,"at":0,"kind":"block","boxes":[[0,10,10,60,60]],"style":{}}
+{"op":"add","parent":2,"at":0,"kind":"block","boxes":[[0,10,10,40,40]],"style":{}}
+{"op":"add","parent":3,"at":0,"kind":"block","boxes":[[0,0,0,1,1]],"style":{"origin":[0,0],"transform":[["scale",4194304,4194304,1],["scale",4194304,4194304,1]]}}
+{"op":"hit","x":25,"y":25}
+{"op":"style","id":2,"style":{"origin":[0,0],"transform":[["scale",2,2,1]]}}
+{"op":"hit","x":25,"y":25}
+{"op":"hit","x":15,"y":15}
+{"op":"add","parent":1,"at":1,"kind":"block","boxes":[[0,80,80,10,10]],"style":{"origin":[0,0],"transform":[["scale",2,2,1]]}}
+{"op":"hit","x":85,"y":85}
+{"op":"move","id":3,"parent":5,"at":0}
+{"op":"hit","x":25,"y":25}
+{"op":"style","id":4,"style":{}}
+{"op":"hit","x":20,"y":20}
+{"op":"hit","x":21,"y":21}
+{"op":"style","id":2,"style":{"origin":[0,0],"transform":[["scale",2,2,1]]}}
+{"op":"hit","x":25,"y":25}
+{"op":"hit","x":31,"y":31}
+{"op":"hit","x":32,"y":32}
+{"op":"hit","x":85,"y":85}
+"#;
+
+pub const REFUSED_ABOVE_REPLIES: &[u8] =
+    b"node 1\nnode 2\nnode 3\nnode 4\nhit 4 3 2 1\nerr 11 bound\nhit 4 3 2 1\nhit 2 1\nnode 5\nhit 5 4 1\nerr 11 bound\nhit 4 3 2 1\nok\nhit 4 3 2 1\nhit 3 2 1\nok\nhit 2 1\nhit 4 3 2 1\nhit 3 2 1\nhit 5 3 2 1\n";

@@ -225,6 +225,7 @@ fn scripts_are_answered(rt: HostRuntime) -> Result<(), Fail> {
         (scrolls::ROUNDED, scrolls::ROUNDED_REPLIES),
         (scrolls::REFUSED_SCROLLS, scrolls::REFUSED_SCROLLS_REPLIES),
         (maps::AT_THE_BOUND, maps::AT_THE_BOUND_REPLIES),
+        (maps::REFUSED_ABOVE, maps::REFUSED_ABOVE_REPLIES),
         (areas::AREAS, areas::AREAS_REPLIES),
         (areas::AREAS_IN_BORDERS, areas::AREAS_IN_BORDERS_REPLIES),
         (areas::ROUNDED_AREAS, areas::ROUNDED_AREAS_REPLIES),
@@ -253,8 +254,13 @@ fn pages_of_boxes_are_answered(rt: HostRuntime) -> Result<(), Fail> {
         (boxes::TEXT_IN_BORDERS, boxes::TEXT_IN_BORDERS_REPLIES),
         (boxes::PASSED_OVER, boxes::PASSED_OVER_REPLIES),
         (boxes::ROUNDED_CONTENT, boxes::ROUNDED_CONTENT_REPLIES),
+        (boxes::HELD, boxes::HELD_REPLIES),
         (scrolls::CLAMPED_NODE, scrolls::CLAMPED_NODE_REPLIES),
         (scrolls::WHAT_CLIPS, scrolls::WHAT_CLIPS_REPLIES),
+        (
+            scrolls::SCROLLED_FAR_ABOVE,
+            scrolls::SCROLLED_FAR_ABOVE_REPLIES,
+        ),
     ] {
         assert_replies(&rt, rt.alloc(), script, replies)?;
     }

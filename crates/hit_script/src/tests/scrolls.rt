@@ -180,3 +180,38 @@ pub const WHAT_CLIPS: &[u8] =
 
 pub const WHAT_CLIPS_REPLIES: &[u8] =
     b"node 1\nnode 2\nnode 3\nnode 4\nnode 5\nnode 6\nnode 7\nnode 8\nnode 9\nhit 9 8 4 3 2 1\nhit 1\nhit 5 1\nhit 7 1\n";
+
+/// The scrolls of a node and of the viewport move what is deep below, each by itself and back again; node 6 is in node 5, but
+/// the root holds it, so the viewport alone moves it.
+pub const SCROLLED_FAR_ABOVE: &[u8] =
+    br#"{"op":"add","parent":0,"at":0,"kind":"block","boxes":[[0,0,0,100,100]],"style":{}}
+{"op":"add","parent":1,"at":0,"kind":"block","boxes":[[0,10,10,60,60]],"style":{"overflow":"auto"}}
+{"op":"add","parent":2,"at":0,"kind":"block","boxes":[[0,0,0,40,80]],"style":{}}
+{"op":"add","parent":3,"at":0,"kind":"block","boxes":[[0,5,5,20,20]],"style":{}}
+{"op":"add","parent":4,"at":0,"kind":"block","boxes":[[0,5,5,10,10]],"style":{}}
+{"op":"add","parent":5,"at":0,"kind":"block","boxes":[[0,90,50,5,5]],"style":{"position":"absolute"}}
+{"op":"place","id":2,"anchor":[0,0],"boxes":[[0,10,10,60,60]],"max":[0,40]}
+{"op":"resize","w":100,"h":100,"max":[0,50]}
+{"op":"hit","x":25,"y":25}
+{"op":"hit","x":92,"y":52}
+{"op":"scroll","id":2,"x":0,"y":8}
+{"op":"hit","x":25,"y":12}
+{"op":"hit","x":25,"y":22}
+{"op":"hit","x":25,"y":27}
+{"op":"hit","x":92,"y":52}
+{"op":"scrollview","x":0,"y":10}
+{"op":"hit","x":25,"y":2}
+{"op":"hit","x":25,"y":12}
+{"op":"hit","x":25,"y":17}
+{"op":"hit","x":92,"y":52}
+{"op":"hit","x":92,"y":42}
+{"op":"scroll","id":2,"x":0,"y":3}
+{"op":"hit","x":25,"y":6}
+{"op":"hit","x":25,"y":7}
+{"op":"scrollview","x":0,"y":0}
+{"op":"hit","x":25,"y":16}
+{"op":"hit","x":25,"y":17}
+"#;
+
+pub const SCROLLED_FAR_ABOVE_REPLIES: &[u8] =
+    b"node 1\nnode 2\nnode 3\nnode 4\nnode 5\nnode 6\nok\nok\nhit 5 4 3 2 1\nhit 6 1\nok\nhit 5 4 3 2 1\nhit 4 3 2 1\nhit 3 2 1\nhit 6 1\nok\nhit 5 4 3 2 1\nhit 4 3 2 1\nhit 3 2 1\nhit 1\nhit 6 1\nok\nhit 4 3 2 1\nhit 5 4 3 2 1\nok\nhit 4 3 2 1\nhit 5 4 3 2 1\n";
