@@ -1,7 +1,7 @@
 -- Each node that an edit doesn't take out is in the page after it, of the same kind; so the table of the page before, with the
 -- entries of the edited node and of all below it, is the table of the page after.
-use Rattle.std.proofs.Common.{◌≡◌, ℕ, zero, suc, ◌+◌, ◌<◌, ◌==◌, List, [], ◌∷◌, Option, Some, None, IsSome, is_some, Bool, true, false, if◌then◌else◌, refl, sym, ap, subst, ◌∙◌, inl, inr, arith}
-use Rattle.std.specs.Prelude.{nat_lt, unwrap_or, ◌&&◌, ℤ, IfSome}
+use Rattle.std.proofs.Common.{◌≡◌, ℕ, zero, suc, ◌+◌, ◌<◌, ◌==◌, List, [], ◌∷◌, length, get_or, Option, Some, None, IsSome, is_some, Bool, true, false, if◌then◌else◌, refl, sym, ap, subst, ◌∙◌, inl, inr, arith}
+use Rattle.std.specs.Prelude.{All, nat_lt, unwrap_or, ◌&&◌, ℤ, IfSome}
 use Rattle.std.specs.List.{list_all}
 use Rattle.std.specs.Option.{option_or, option_map, option_map_or, option_and_then}
 use Rattle.std.proofs.lemmas.Bool.{cases_lt, cases_eq, false≢true}
@@ -253,6 +253,23 @@ module _ (page : Contents) (x : ℕ) where
   gone (Scroll id to_x to_y) faultless out = absurd (false≢true out)
   gone (Resize w h max) faultless out = absurd (false≢true out)
   gone (ScrollView to_x to_y) faultless out = absurd (false≢true out)
+
+-- each of some ids is among them
+all-among : (ids : List ℕ) (P : ℕ → Type 0) → ((x : ℕ) → is_among ids x ≡ true → P x) → All P ids
+all-among ids P so = λ k d within. so (get_or ids k d) (among ids k d within)
+  where
+    among : (xs : List ℕ) (k d : ℕ) → k < length xs → is_among xs (get_or xs k d) ≡ true
+    among [] k d within = absurd (omega (arith, within))
+    among (x ∷ xs) zero d within = grind (arith, nat_tests)
+    among (x ∷ xs) (suc k) d within = grind (arith, nat_tests, among xs k d (omega (arith, within)))
+
+-- so none of the ids that are taken out has a new entry
+pub removed-apart : (page : Contents) (edit : Edit) → IsFaultless page edit → (change : List (ℕ × Entry)) → ((x : ℕ) → new_entry change x ≡ renewed_entry (edited page edit) (renewed_node page edit) x) → All (λ id. new_entry change id ≡ None) (removed_ids page edit)
+removed-apart page edit faultless change renewed = all-among (removed_ids page edit) (λ x. new_entry change x ≡ None) (λ x out. renewed x ∙ by_test x out (is_in_subtree (edited page edit) (renewed_node page edit) x))
+  where
+    by_test : (x : ℕ) → is_among (removed_ids page edit) x ≡ true → (b : Bool) → (if b then entry_of (edited page edit) x else None) ≡ None
+    by_test x out true = sym (gone page x edit faultless out)
+    by_test x out false = refl
 
 module _ (page : Contents) (edit : Edit) (faultless : IsFaultless page edit) (table : List (Option Entry)) (known : IsTableOf table page) where
   -- the table before has the entries of the nodes outside of what the edit changes

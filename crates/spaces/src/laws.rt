@@ -1,5 +1,5 @@
 //! Laws of the definitions, each the contract of a function without a body.
-ghost use Rattle.std.specs.Prelude.{◌≡◌, ℕ, ℤ, List, [], Option, None, IsSome, IfSome, IsSomeAnd, IsTrue};
+ghost use Rattle.std.specs.Prelude.{◌≡◌, All, ℕ, ℤ, List, [], Option, None, IsSome, IfSome, IsSomeAnd, IsTrue};
 ghost use Rattle.box_tree.specs.declared.edit.Edit.{Edit};
 ghost use Rattle.std.specs.Option.{option_map, option_and_then};
 ghost use Rattle.computed_style.specs.Ranges.{IsSide};
@@ -24,11 +24,13 @@ pub fn frame_spaces()
 
 /// A table of a page suits `SpaceTable::renew` on the page that an edit leaves, for the node that the edit changes, and for the
 /// whole page where it changes the viewport. With the change that this gives applied to it, and the ids taken out that the
-/// edit takes out, it is the table of that page. A table without an entry is that of a page with no node.
+/// edit takes out, none of which has a new entry, it is the table of that page. A table without an entry is that of a page with
+/// no node.
 pub fn frame_table()
     ensures suits { (table : List (Option Entry)) (page : Contents) (edit : Edit) → IsFaultless page edit → IsTableOf table page → IsTableOutside table (edited page edit) (renewed_node page edit) }
     ensures applied { (table new : List (Option Entry)) (page : Contents) (edit : Edit) (change : List (ℕ × Entry)) → IsFaultless page edit → IsTableOf table page →
         ((id : ℕ) → new_entry change id ≡ renewed_entry (edited page edit) (renewed_node page edit) id) → ((id : ℕ) → entry_under new id ≡ applied table change (removed_ids page edit) id) → IsTableOf new (edited page edit) }
+    ensures apart { (page : Contents) (edit : Edit) → IsFaultless page edit → (change : List (ℕ × Entry)) → ((id : ℕ) → new_entry change id ≡ renewed_entry (edited page edit) (renewed_node page edit) id) → All (λ id. new_entry change id ≡ None) (removed_ids page edit) }
     ensures empty { (w h : ℤ) → IsTableOf [] (empty_page w h) }
 {}
 

@@ -10,7 +10,6 @@ use Rattle.spaces.specs.Bound.{is_bounded}
 use Rattle.box_tree.specs.Frame.{IsFaultless}
 use Rattle.spaces.specs.Table.{is_bounded_in, new_entry, renewed_entry, renewed_node, removed_ids, applied, IsTableOf}
 use Rattle.tree_edits.specs.Faithful.{IsFaithful}
-use Rattle.tree_edits.proofs.ReachLemmas.{removed-apart}
 use Rattle.tree_edits.proofs.engine.Engine.edit.Goals as goal
 
 pub apply-requires-clause-apart : goal.apply-requires-clause-apart
@@ -21,8 +20,9 @@ apply-requires-clause-apart g c =
     let after_is : c.commit-undo.new.self.contents ≡ edited before edit = c.commit-undo.ensures.contents ∙ ap (edited c.check.new.self.contents) c.in_ok-prepared.ensures.prepared.0 ∙ ap (λ (p : Contents). edited p edit) c.check.ensures.contents in
     let node_is : c.renewed_node-subtree.result ≡ renewed_node before edit = c.renewed_node-subtree.ensures ∙ ap (λ (p : Contents). renewed_node p edit) c.check.ensures.contents in
     let ids_are : c.as_slice.result.now ≡ removed_ids before edit = c.as_slice.ensures.value ∙ c.in_ok-removed.ensures ∙ ap (λ (p : Contents). removed_ids p edit) c.check.ensures.contents in
+    let faultless : IsFaultless before edit = record { valid = c.validity.ensures; none = c.in_ok-prepared.ensures.faultless } in
     subst (λ (ids : List ℕ). All (λ id. new_entry change id ≡ None) ids) (sym ids_are)
-    (removed-apart before c.validity.ensures edit change
+    (c.frame_table.ensures.apart before edit faultless change
     (λ x. c.in-Ok.ensures.renewed x ∙ ap (λ (p : Contents). renewed_entry p c.renewed_node-subtree.result x) after_is ∙ ap (λ (node : ℕ). renewed_entry (edited before edit) node x) node_is))
 
 pub invariant_of-self-in-Ok : goal.invariant_of-self-in-Ok
