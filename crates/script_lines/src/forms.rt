@@ -1,10 +1,11 @@
 // What a node has beside its boxes, as the JSON array of the key `shape` spells it.
 ghost use Rattle.std.specs.Prelude.{◌≡◌, IfOk, IfSome, option_map, option_and_then};
+ghost use Rattle.serde_json.specs.Find.{as_str};
 ghost use Rattle.serde_json.specs.View.{view};
 ghost use Rattle.svg_shapes.specs.Shapes.{IsMeasured};
 ghost use Rattle.box_tree.specs.Forms.{IsFormInRange};
 ghost use Rattle.box_tree.specs.declared.form.Form.TheVariants.{Cover, Outline, View, Port, MapName};
-ghost use Rattle.script_lines.specs.Forms.{has_list as lists, map_of, rect_form as rect_or_area, circle_form as circle_or_area, outline_named, form_named as named, form_of};
+ghost use Rattle.script_lines.specs.Forms.{has_list as lists, map_of, rect_form as rect_or_area, circle_form as circle_or_area, outline_as, form_named as named, form_as, form_of};
 ghost use Rattle.script_lines.specs.Views.{view_of, port_of};
 
 use crate::areas::{area_from, default_from};
@@ -17,6 +18,30 @@ use image_maps::{AreaKind, AreaShape, OutOfMemory};
 use serde_json::Value;
 use std::alloc::Global;
 use svg_shapes::Shape;
+
+// The name of a form.
+#[derive(Clone, Copy)]
+enum FormName {
+    Rect,
+    Circle,
+    Poly,
+    Default,
+    View,
+    Port,
+    Map,
+    Outline(OutlineName),
+}
+
+// The name of an outline, but for a rect and a circle, whose names areas have too.
+#[derive(Clone, Copy)]
+enum OutlineName {
+    Path,
+    Polygon,
+    Polyline,
+    Line,
+    Ellipse,
+    Boxes,
+}
 
 // Whether a list stands in the second place.
 fn has_list(value: &Value) -> bool
@@ -83,20 +108,22 @@ fn map_from(value: &Value) -> Option<u32>
     number_to(value.get(1), u32::MAX)
 }
 
-// An outline by the row of its name, but for a rect and a circle.
-#[tactic(auto, unfolding(crate::specs::Forms::outline_named))]
-fn outline_from(alloc: Global, name: &str, value: &Value) -> Result<Option<Shape>, OutOfMemory>
-    ensures value { IfOk result (λ shape. shape ≡ outline_named name.now (view value.now)) }
+// The outline by the row of its name.
+fn outline_from(
+    alloc: Global,
+    name: OutlineName,
+    value: &Value,
+) -> Result<Option<Shape>, OutOfMemory>
+    ensures value { IfOk result (λ shape. shape ≡ outline_as name (view value.now)) }
     ensures in_range { IfOk result (λ shape. IfSome shape IsMeasured) }
 {
     match name {
-        "path" => path_from(alloc, value),
-        "polygon" => polygon_from(alloc, value),
-        "polyline" => polyline_from(alloc, value),
-        "line" => Ok(line_from(value)),
-        "ellipse" => Ok(ellipse_from(value)),
-        "boxes" => Ok(fine_boxes_from(alloc, value)?),
-        _ => Ok(None),
+        OutlineName::Path => path_from(alloc, value),
+        OutlineName::Polygon => polygon_from(alloc, value),
+        OutlineName::Polyline => polyline_from(alloc, value),
+        OutlineName::Line => Ok(line_from(value)),
+        OutlineName::Ellipse => Ok(ellipse_from(value)),
+        OutlineName::Boxes => Ok(fine_boxes_from(alloc, value)?),
     }
 }
 
@@ -124,20 +151,42 @@ fn map_form(value: &Value) -> Option<Form>
     Some(Form::MapName(map))
 }
 
-// A form by the row of its name.
-fn form_named(alloc: Global, name: &str, value: &Value) -> Result<Option<Form>, OutOfMemory>
-    ensures value { IfOk result (λ form. form ≡ named name.now (view value.now)) }
+// The name of a form.
+fn name_from(found: Option<&Value>) -> Option<FormName>
+    ensures { result ≡ option_and_then named (option_and_then as_str (option_map (λ v. view v.now) found.entry)) }
+{
+    match found?.as_str()? {
+        "rect" => Some(FormName::Rect),
+        "circle" => Some(FormName::Circle),
+        "poly" => Some(FormName::Poly),
+        "default" => Some(FormName::Default),
+        "view" => Some(FormName::View),
+        "port" => Some(FormName::Port),
+        "map" => Some(FormName::Map),
+        "path" => Some(FormName::Outline(OutlineName::Path)),
+        "polygon" => Some(FormName::Outline(OutlineName::Polygon)),
+        "polyline" => Some(FormName::Outline(OutlineName::Polyline)),
+        "line" => Some(FormName::Outline(OutlineName::Line)),
+        "ellipse" => Some(FormName::Outline(OutlineName::Ellipse)),
+        "boxes" => Some(FormName::Outline(OutlineName::Boxes)),
+        _ => None,
+    }
+}
+
+// The form by the row of its name.
+fn row_from(alloc: Global, name: FormName, value: &Value) -> Result<Option<Form>, OutOfMemory>
+    ensures value { IfOk result (λ form. form ≡ form_as name (view value.now)) }
     ensures in_range { IfOk result (λ form. IfSome form IsFormInRange) }
 {
     match name {
-        "rect" => rect_form(alloc, value),
-        "circle" => circle_form(alloc, value),
-        "poly" => Ok(cover(area_from(alloc, AreaKind::Poly, value)?)),
-        "default" => Ok(cover(default_from(alloc, value)?)),
-        "view" => Ok(view_form(value)),
-        "port" => Ok(port_form(value)),
-        "map" => Ok(map_form(value)),
-        _ => Ok(outline(outline_from(alloc, name, value)?)),
+        FormName::Rect => rect_form(alloc, value),
+        FormName::Circle => circle_form(alloc, value),
+        FormName::Poly => Ok(cover(area_from(alloc, AreaKind::Poly, value)?)),
+        FormName::Default => Ok(cover(default_from(alloc, value)?)),
+        FormName::View => Ok(view_form(value)),
+        FormName::Port => Ok(port_form(value)),
+        FormName::Map => Ok(map_form(value)),
+        FormName::Outline(name) => Ok(outline(outline_from(alloc, name, value)?)),
     }
 }
 
@@ -147,8 +196,8 @@ fn form_of_value(alloc: Global, value: &Value) -> Result<Option<Form>, OutOfMemo
     ensures value { IfOk result (λ form. form ≡ form_of (view value.now)) }
     ensures in_range { IfOk result (λ form. IfSome form IsFormInRange) }
 {
-    match value.get(0).and_then(Value::as_str) {
-        Some(name) => form_named(alloc, name, value),
+    match name_from(value.get(0)) {
+        Some(name) => row_from(alloc, name, value),
         None => Ok(None),
     }
 }
