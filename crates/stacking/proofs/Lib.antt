@@ -11,3 +11,7 @@ pub mod NextLemmas
 pub mod ContextLemmas
 pub mod CountLemmas
 pub mod OnceLemmas
+pub mod PairLemmas
+pub mod AlikeLemmas
+pub mod RestLemmas
+pub mod FrameLemmas
