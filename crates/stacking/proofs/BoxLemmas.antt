@@ -19,7 +19,7 @@ at_drop of_box rest none more (x ∷ xs) k (suc j) d within = at_drop of_box res
     same : (j : ℕ) → suc (j + 1) ≡ suc j + 1
     same j = omega arith
 
-drop_all : {A : Type 0} (xs : List A) (k : ℕ) → length xs ≤ k → drop k xs ≡ []
+pub drop_all : {A : Type 0} (xs : List A) (k : ℕ) → length xs ≤ k → drop k xs ≡ []
 drop_all [] zero all = refl
 drop_all [] (suc k) all = refl
 drop_all (x ∷ xs) zero all = absurd (omega arith)

@@ -19,7 +19,7 @@ use Rattle.box_tree.proofs.TakenLemmas.{taken_out-other, place_without, placed_i
 use Rattle.stacking.specs.Painting.{at, entries}
 use Rattle.stacking.specs.OnPage.{of_node}
 use Rattle.stacking.specs.Contexts.{nearest_context, context_of}
-use Rattle.stacking.specs.Frame.{changed_node, CanBeMade, is_next_to}
+use Rattle.stacking.specs.Frame.{changed_node, CanBeMade, is_next_to, KeepsList}
 use Rattle.stacking.proofs.AlikeLemmas.{AlikeTrees, IsSame, same-at, real-looks, entries-alike}
 use Rattle.stacking.proofs.RestLemmas.{placed_in-deeper, occurrences-placed_in, KeepsRest, keeps-rest}
 
@@ -167,10 +167,6 @@ module _ (page after : Contents) (x : ℕ) (keeps : KeepsRest page after x) (id 
   ]
 
 -- the list of a stacking context that stays one
-pub record KeepsList (page after : Contents) (id : ℕ) : Type 0 where
-  pub context : makes_context after id ≡ true
-  pub listed : of_node entries after id ≡ of_node entries page id
-
 module _ (page after : Contents) (changed id : ℕ) (keeps : KeepsRest page after changed) where
   pub keeps-list : makes_context page id ≡ true → has_id after id ≡ true → changed ≢ id → context_of page changed ≢ id → context_of after changed ≢ id → KeepsList page after id
   keeps-list real there other before later = by_places (placed_of page id) (placed_of after id) refl refl real there
@@ -198,7 +194,7 @@ pub is_apart : (page : Contents) (changed id : ℕ) → is_next_to page changed 
 is_apart page changed id is = record { above = grind (arith, nat_tests, is); other = grind (arith, nat_tests, is) }
 
 -- there is no context without a node
-context-there : (page : Contents) (id : ℕ) → makes_context page id ≡ true → has_id page id ≡ true
+pub context-there : (page : Contents) (id : ℕ) → makes_context page id ≡ true → has_id page id ≡ true
 context-there page id real = by_place (placed_of page id) real
   where
     by_place : (o : Option Placed) → option_map_or (λ p. is_real_context (parent_of p.above) p.label) o false ≡ true → is_some o ≡ true

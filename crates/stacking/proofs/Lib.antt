@@ -15,3 +15,4 @@ pub mod PairLemmas
 pub mod AlikeLemmas
 pub mod RestLemmas
 pub mod FrameLemmas
+pub mod TouchedLemmas

@@ -12,7 +12,7 @@ use Rattle.box_tree.specs.Forest.{Label, Forest, End, Grow, node_count, occurren
 use Rattle.box_tree.specs.Contents.{Contents, placed_of, tree_of, has_id, new_label, IsValid}
 use Rattle.box_tree.specs.Edited.{put_in, put_below, planted, taken_out, relabelled, laid_out, restyled, reshaped, scrolled_node, edited}
 use Rattle.box_tree.proofs.AddLemmas.{MayAdd, may_add, once_there}
-use Rattle.box_tree.proofs.ForestLemmas.{single, placed_in-absent, placed_in-head, placed_in-below, placed_in-others, occurrences-put_in, occurrences-put_below, put_below-absent, put_below-here, put_below-other}
+use Rattle.box_tree.proofs.ForestLemmas.{single, ancestors_in, placed_in-absent, placed_in-head, placed_in-below, placed_in-others, occurrences-put_in, occurrences-put_below, put_below-absent, put_below-here, put_below-other}
 use Rattle.box_tree.proofs.MoveLemmas.{may_move}
 use Rattle.box_tree.proofs.PlaceLemmas.{occurrences-relabelled, placed_in-relabelled, new_place}
 use Rattle.box_tree.proofs.PlacedLemmas.{id-placed_in}
@@ -77,7 +77,7 @@ relabelled-absent id change End none = refl
 relabelled-absent id change (Grow n below others) none = grind (arith, nat_tests, relabelled-absent id change below, relabelled-absent id change others)
 
 -- nothing is left of a node that goes
-gone : (f : Forest) (id : ℕ) → occurrences (taken_out id f) id ≡ 0
+pub gone : (f : Forest) (id : ℕ) → occurrences (taken_out id f) id ≡ 0
 gone End id = refl
 gone (Grow first firsts others) id = elim (cases_eq first.id id) [
   | inl here ↦ rw (taken_out-head first firsts others id here) (gone others id)
@@ -88,37 +88,44 @@ gone (Grow first firsts others) id = elim (cases_eq first.id id) [
 abbrev pub below_in : List Label → Forest → ℕ → Option Forest
 below_in above f id = option_map (λ p. p.below) (placed_in above f id)
 
--- what is below a node that was put in
-below-put_in : (f : Forest) (above : List Label) (at : ℕ) (n : Label) (below : Forest) → occurrences f n.id ≡ 0 → below_in above (put_in at n below f) n.id ≡ Some below
-below-put_in f above zero n below none = ap (option_map (λ p. p.below)) (placed_in-head n below f above)
-below-put_in End above (suc at) n below none = ap (option_map (λ p. p.below)) (placed_in-head n below End above)
-below-put_in (Grow first firsts others) above (suc at) n below none =
-    ap (option_map (λ p. p.below)) (placed_in-others first firsts (put_in at n below others) above n.id (grind (arith, nat_tests)) (omega (arith, none)))
-    ∙ below-put_in others above at n below (omega (arith, none))
+-- the place of a node that was put in
+place-put_in : (f : Forest) (above : List Label) (at : ℕ) (n : Label) (below : Forest) → occurrences f n.id ≡ 0 → placed_in above (put_in at n below f) n.id ≡ Some (record { label = n; above = above; below = below })
+place-put_in f above zero n below none = placed_in-head n below f above
+place-put_in End above (suc at) n below none = placed_in-head n below End above
+place-put_in (Grow first firsts others) above (suc at) n below none =
+    placed_in-others first firsts (put_in at n below others) above n.id (grind (arith, nat_tests)) (omega (arith, none))
+    ∙ place-put_in others above at n below (omega (arith, none))
 
-below-put_below : (f : Forest) (above : List Label) (parent at : ℕ) (n : Label) (below : Forest) → occurrences f n.id ≡ 0 → occurrences f parent ≡ 1 → below_in above (put_below parent at n below f) n.id ≡ Some below
-below-put_below End above parent at n below none once = absurd (omega (arith, once))
-below-put_below (Grow first firsts others) above parent at n below none once =
+pub place-put_below : (f : Forest) (above : List Label) (parent at : ℕ) (n : Label) (below : Forest) → occurrences f n.id ≡ 0 → occurrences f parent ≡ 1 →
+    placed_in above (put_below parent at n below f) n.id ≡ Some (record { label = n; above = ancestors_in above f parent; below = below })
+place-put_below End above parent at n below none once = absurd (omega (arith, once))
+place-put_below (Grow first firsts others) above parent at n below none once =
     let apart : first.id ≢ n.id = grind (arith, nat_tests) in
     let own : 0 < occurrences (single n below) n.id = grind (arith, nat_tests) in
     elim (cases_eq first.id parent) [
       | inl here ↦
-          ap (λ f. below_in above f n.id) (put_below-here first firsts others parent at n below here)
-          ∙ ap (option_map (λ p. p.below)) (placed_in-below first (put_in at n below firsts) others above n.id apart (omega (arith, own, occurrences-put_in firsts at n below n.id)))
-          ∙ below-put_in firsts (first ∷ above) at n below (omega (arith, none))
+          ap (λ f. placed_in above f n.id) (put_below-here first firsts others parent at n below here)
+          ∙ placed_in-below first (put_in at n below firsts) others above n.id apart (omega (arith, own, occurrences-put_in firsts at n below n.id))
+          ∙ place-put_in firsts (first ∷ above) at n below (omega (arith, none))
+          ∙ ap (λ (o : Option Placed). placed_below (option_map_or (λ p. p.label ∷ p.above) o [])) (sym (placed_in-head first firsts others above) ∙ ap (placed_in above (Grow first firsts others)) here)
       | inr other ↦
-          ap (λ f. below_in above f n.id) (put_below-other first firsts others parent at n below other)
+          ap (λ f. placed_in above f n.id) (put_below-other first firsts others parent at n below other)
           ∙ elim (cases_lt 0 (occurrences firsts parent)) [
             | inl some ↦
                 let one : occurrences firsts parent ≡ 1 = grind (arith, nat_tests) in
-                ap (option_map (λ p. p.below)) (placed_in-below first (put_below parent at n below firsts) (put_below parent at n below others) above n.id apart (omega (arith, own, occurrences-put_below firsts parent at n below n.id one)))
-                ∙ below-put_below firsts (first ∷ above) parent at n below (omega (arith, none)) one
+                placed_in-below first (put_below parent at n below firsts) (put_below parent at n below others) above n.id apart (omega (arith, own, occurrences-put_below firsts parent at n below n.id one))
+                ∙ place-put_below firsts (first ∷ above) parent at n below (omega (arith, none)) one
+                ∙ ap (λ (o : Option Placed). placed_below (option_map_or (λ p. p.label ∷ p.above) o [])) (sym (placed_in-below first firsts others above parent other some))
             | inr few ↦
                 let absent : put_below parent at n below firsts ≡ firsts = put_below-absent firsts parent at n below (omega (arith, few)) in
-                ap (option_map (λ p. p.below)) (placed_in-others first (put_below parent at n below firsts) (put_below parent at n below others) above n.id apart (ap (λ f. occurrences f n.id) absent ∙ omega (arith, none)))
-                ∙ below-put_below others above parent at n below (omega (arith, none)) (grind (arith, nat_tests))
+                placed_in-others first (put_below parent at n below firsts) (put_below parent at n below others) above n.id apart (ap (λ f. occurrences f n.id) absent ∙ omega (arith, none))
+                ∙ place-put_below others above parent at n below (omega (arith, none)) (grind (arith, nat_tests))
+                ∙ ap (λ (o : Option Placed). placed_below (option_map_or (λ p. p.label ∷ p.above) o [])) (sym (placed_in-others first firsts others above parent other (omega (arith, few))))
           ]
     ]
+  where
+    placed_below : List Label → Option Placed
+    placed_below ancestors = Some (record { label = n; above = ancestors; below = below })
 
 -- what stands at a node or below it stands in the trees in which it was found
 pub occurrences-placed_in : (f : Forest) (above : List Label) (id : ℕ) (p : Placed) (other : ℕ) → placed_in above f id ≡ Some p → (if p.label.id == other then 1 else 0) + occurrences p.below other ≤ occurrences f other
@@ -253,7 +260,7 @@ module _ (page : Contents) (valid : IsValid page) where
     below-at (Some p) is f g found found' =
         let here : p.label.id ≡ id = id-placed_in page.tree [] id p is in
         let put : below_in [] (put_below parent at p.label p.below (taken_out id page.tree)) p.label.id ≡ Some p.below =
-        below-put_below (taken_out id page.tree) [] parent at p.label p.below (ap (occurrences (taken_out id page.tree)) here ∙ gone page.tree id) once-rest in
+        ap (option_map (λ q. q.below)) (place-put_below (taken_out id page.tree) [] parent at p.label p.below (ap (occurrences (taken_out id page.tree)) here ∙ gone page.tree id) once-rest) in
         let put' : Some p.below ≡ Some g = sym put ∙ ap (below_in [] (put_below parent at p.label p.below (taken_out id page.tree))) here ∙ found' in
         let same : p.below ≡ f = cc in
         let same' : p.below ≡ g = cc in

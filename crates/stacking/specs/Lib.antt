@@ -4,5 +4,6 @@ pub mod OnPage
 pub mod Lists
 pub mod Contexts
 pub mod Frame
+pub mod Touched
 pub mod Laws
 pub mod Counting

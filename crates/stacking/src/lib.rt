@@ -5,6 +5,7 @@
 //! nodes.
 #![tactic(auto)]
 
+mod changes;
 mod content;
 mod context;
 mod items;
@@ -18,6 +19,7 @@ mod reach;
 mod reading;
 mod roles;
 
+pub use changes::touched;
 pub use context::context_of;
 pub use layer::layer_of;
 pub use lists::lists_of;
