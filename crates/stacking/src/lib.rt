@@ -14,6 +14,8 @@ mod layer;
 mod lists;
 mod members;
 mod memory;
+#[cfg(test)]
+mod pages;
 mod pieces;
 mod reach;
 mod reading;
@@ -24,3 +26,6 @@ pub use context::context_of;
 pub use layer::layer_of;
 pub use lists::lists_of;
 pub use memory::OutOfMemory;
+
+#[cfg(test)]
+mod tests;
