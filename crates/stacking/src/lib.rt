@@ -1,8 +1,9 @@
 //! The painting order (CSS 2.2, Appendix E): what of a page is painted above what.
 //!
-//! It promises that the layer of a stacking context is that of the definitions in `specs/Painting.antt`, and that each
-//! item of a page stands in the layer of its root once. It stands on `box_tree` for the page and the used values of its
-//! nodes.
+//! It promises that the layer of a stacking context and its list, in which other stacking contexts are left as entries,
+//! are those of the definitions in `specs/Painting.antt`, that each item of a page stands in the layer of its root once,
+//! and that an edit changes no lists but those that `touched` names. It stands on `box_tree` for the page and the used
+//! values of its nodes, and on `paint_order` for the entries of lists.
 #![tactic(auto)]
 
 mod changes;
