@@ -11,9 +11,9 @@ use Rattle.box_tree.specs.declared.item.Item.{Item}
 use Rattle.box_tree.specs.declared.piece.Piece.{Piece}
 use Rattle.box_tree.specs.Forest.{Label, Forest, End, Grow, Placed, height_of}
 use Rattle.box_tree.specs.Containing.{parent_of}
-use Rattle.box_tree.specs.Suits.{is_svg_content}
+use Rattle.box_tree.specs.Suits.{is_text, is_svg_content}
 use Rattle.box_tree.specs.Used.{is_floating, is_positioned, is_real_context, may_make_context, is_in_flow, stack_level}
-use Rattle.stacking.specs.Painting.{Paint, OneBox, Whole, LinePiece, Share, ContextEntry, OneItem, SubContext, at, is_text_kind, is_replaced_kind, is_entered, is_block, is_member, is_float, is_inline, is_atom, has_head, own, box_items, head, drawn, outlines, content, content_as, box_pieces, own_pieces, first_line, share_of, shares_of, shares_in, reach, blocks, floats, pieces, is_on_lower_line, level_of, is_on_lower_level, context_members, painted_piece, lines_with, body_with, flat_to, flat, body, listed_member, entries}
+use Rattle.stacking.specs.Painting.{Paint, OneBox, Whole, LinePiece, Share, ContextEntry, OneItem, SubContext, at, is_replaced_kind, is_entered, is_block, is_member, is_float, is_inline, is_atom, has_head, own, box_items, head, drawn, outlines, content, content_as, box_pieces, own_pieces, first_line, share_of, shares_of, shares_in, reach, blocks, floats, pieces, is_on_lower_line, level_of, is_on_lower_level, context_members, painted_piece, lines_with, body_with, flat_to, flat, body, listed_member, entries}
 use Rattle.stacking.specs.Sorting.{sorted_by}
 use Rattle.stacking.proofs.SeenLemmas.{content_by}
 use Rattle.stacking.proofs.PairLemmas.{EachPair, pairs-append, pairs-if, pairs-filter, pairs-joined, pairs-flat_map, pairs-sorted}
@@ -196,7 +196,7 @@ module _ (k j : ℕ) where
 
       pieces-alike : EachPair (IsAlikePiece k j) (share_of p ss).pieces (share_of q ts).pieces
       pieces-alike =
-          pairs-if (IsAlikePiece k j) (is_text_kind n.kind) (is_text_kind m.kind) (ap (λ (l : Label). is_text_kind l.kind) is.same.label) (own_pieces n) _ (own_pieces m) _ (λ so. own_pieces-alike n m is.same.label)
+          pairs-if (IsAlikePiece k j) (is_text n.kind) (is_text m.kind) (ap (λ (l : Label). is_text l.kind) is.same.label) (own_pieces n) _ (own_pieces m) _ (λ so. own_pieces-alike n m is.same.label)
           (λ no_text. pairs-if (IsAlikePiece k j) (at is_in_flow p && at is_inline p) (at is_in_flow q && at is_inline q)
           (ap (λ c. c && at is_inline p) (same-at is_in_flow flow-looks p q is.same) ∙ ap (λ c. at is_in_flow q && c) (same-at is_inline inline-looks p q is.same)) _ _ _ _
           (λ so. pairs-append (IsAlikePiece k j) (own_pieces n) _ (own_pieces m) _ (own_pieces-alike n m is.same.label)

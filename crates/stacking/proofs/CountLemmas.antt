@@ -13,7 +13,7 @@ use Rattle.box_tree.specs.declared.item.Item.{Item}
 use Rattle.box_tree.specs.Forest.{Label, Forest, End, Grow, Placed}
 use Rattle.box_tree.specs.Containing.{parent_of}
 use Rattle.box_tree.specs.Used.{is_floating, is_block_level, is_block_level_as, is_block_container, is_block_container_as, is_atomic_as, is_positioned, is_real_context, is_in_flow, position_as, takes_offsets, takes_out, used_position, may_make_context, may_float, has_context_style}
-use Rattle.stacking.specs.Painting.{is_text_kind, is_inline_kind, is_replaced_kind, is_entered, is_block, is_member, is_float, is_inline, is_atom, has_head, at, own, content, content_as, drawn, drawn_as, outlines, head, Whole, LinePiece, Share, box_items, box_pieces, own_pieces, first_line, pieces_with, shares_of, shares_in, reach, blocks, floats, pieces, is_on_lower_line, level_of, is_on_lower_level, context_members, painted_piece, flat, lines, body, painted_member, layer}
+use Rattle.stacking.specs.Painting.{is_inline_kind, is_replaced_kind, is_entered, is_block, is_member, is_float, is_inline, is_atom, has_head, at, own, content, content_as, drawn, drawn_as, outlines, head, Whole, LinePiece, Share, box_items, box_pieces, own_pieces, first_line, pieces_with, shares_of, shares_in, reach, blocks, floats, pieces, is_on_lower_line, level_of, is_on_lower_level, context_members, painted_piece, flat, lines, body, painted_member, layer}
 use Rattle.stacking.specs.Sorting.{put_in_order, sorted_by}
 use Rattle.stacking.specs.Counting.{count, items_in, root_layer, AllItemsArePainted}
 use Rattle.computed_style.specs.Defaults.{is_empty, has_initial_flow}
@@ -298,7 +298,7 @@ record UnseenWords (p : Placed) : Type 0 where
   block : at is_block p ≡ false
   float : at is_float p ≡ false
   entered : at is_entered p ≡ false
-  text : is_text_kind p.label.kind ≡ false
+  text : is_text p.label.kind ≡ false
   inline : (at is_in_flow p && at is_inline p) ≡ false
   atom : at is_atom p ≡ false
 
@@ -306,7 +306,7 @@ and-false : (b : Bool) → (b && false) ≡ false
 and-false true = refl
 and-false false = refl
 
-words_from : (p : Placed) → IsUnseen p → is_block_level (parent_of p.above) p.label ≡ false → is_inline_kind p.label.kind ≡ false → is_atomic_as p.label.kind ≡ false → is_text_kind p.label.kind ≡ false → UnseenWords p
+words_from : (p : Placed) → IsUnseen p → is_block_level (parent_of p.above) p.label ≡ false → is_inline_kind p.label.kind ≡ false → is_atomic_as p.label.kind ≡ false → is_text p.label.kind ≡ false → UnseenWords p
 unfolding is_entered is_block is_member is_float is_inline is_atom
 words_from p unseen no_level no_inline no_atom no_text = record {
   block = ap (λ b. at is_in_flow p && b) no_level ∙ and-false (at is_in_flow p);
@@ -343,7 +343,7 @@ module _ (test : Item → Bool) where
   -- the equation of one node, in terms of the words
   abbrev TotalAs : Kind → Option Label → Label → ℕ → ℕ → List Share → Type 0
   TotalAs kind parent n o c ss =
-      NodeTotal (is_text_kind kind) (is_replaced_kind kind) (is_inline_kind kind) (is_floating parent n) (is_positioned parent n) (is_real_context parent n) (is_block_level parent n)
+      NodeTotal (is_text kind) (is_replaced_kind kind) (is_inline_kind kind) (is_floating parent n) (is_positioned parent n) (is_real_context parent n) (is_block_level parent n)
       (is_block_container_as kind (is_block_level parent n)) (is_atomic_as kind && not (is_block_level parent n)) o c (r_of ss) (q_of ss) (m_of ss)
 
   level-block : (parent : Option Label) (n : Label) → n.kind ≡ Block → is_block_level parent n ≡ true
@@ -455,8 +455,8 @@ module _ (test : Item → Bool) where
 
   -- the pieces that a node gives
   total-pieces_with : (inner : List LinePiece) (p : Placed) → total (Q test) (pieces_with inner p) ≡
-      (if is_text_kind p.label.kind then o_of p else if at is_in_flow p && at is_inline p then o_of p + total (Q test) inner else if at is_atom p then count test (flat p) else 0)
-  total-pieces_with inner p = by_tests (is_text_kind p.label.kind) (at is_in_flow p && at is_inline p) (at is_atom p)
+      (if is_text p.label.kind then o_of p else if at is_in_flow p && at is_inline p then o_of p + total (Q test) inner else if at is_atom p then count test (flat p) else 0)
+  total-pieces_with inner p = by_tests (is_text p.label.kind) (at is_in_flow p && at is_inline p) (at is_atom p)
     where
       by_tests : (a b c : Bool) → total (Q test) (if a then own_pieces p.label else if b then own_pieces p.label ++ inner else if c then record { line = first_line p.label.boxes; paint = Whole p } ∷ [] else [])
           ≡ (if a then count test (own p) else if b then count test (own p) + total (Q test) inner else if c then count test (flat p) else 0)
@@ -486,12 +486,12 @@ module _ (test : Item → Bool) where
       let sum = λ (l : ℕ) (f : ℕ).
       ((if at is_block p then o_of p + l else 0) + (if at is_float p then f else 0))
       + ((if at is_entered p then r_of ss else 0)
-      + ((if is_text_kind p.label.kind then o_of p else if at is_in_flow p && at is_inline p then o_of p + q_of ss else if at is_atom p then f else 0)
+      + ((if is_text p.label.kind then o_of p else if at is_in_flow p && at is_inline p then o_of p + q_of ss else if at is_atom p then f else 0)
       + ((if at is_member p then (if at is_real_context p then f + m_of ss else f) else 0) + (if at is_real_context p then 0 else m_of ss)))) in
       let flat_with = λ (l : ℕ). (if at has_head p then o_of p else 0) + ((if is_replaced_kind p.label.kind then 0 else r_of ss) + l) in
       let lines_of : ℕ = if is_replaced_kind p.label.kind then c_of p else (if at is_inline p then o_of p else 0) + q_of ss in
       ap (λ k. W test p + ((if at is_entered p then r_of ss else 0) + (k + (total (M test) (if at is_member p then p ∷ [] else []) + (if at is_real_context p then 0 else m_of ss))))) (total-pieces_with (flat_map (λ s. s.pieces) ss) p)
-      ∙ ap (λ k. W test p + ((if at is_entered p then r_of ss else 0) + ((if is_text_kind p.label.kind then o_of p else if at is_in_flow p && at is_inline p then o_of p + q_of ss else if at is_atom p then count test (flat p) else 0) + (k + (if at is_real_context p then 0 else m_of ss))))) (count-member p)
+      ∙ ap (λ k. W test p + ((if at is_entered p then r_of ss else 0) + ((if is_text p.label.kind then o_of p else if at is_in_flow p && at is_inline p then o_of p + q_of ss else if at is_atom p then count test (flat p) else 0) + (k + (if at is_real_context p then 0 else m_of ss))))) (count-member p)
       ∙ ap (λ f. sum (count test (lines p)) f) (count-flat test p)
       ∙ ap (λ l. sum l (flat_with l)) (count-lines test p)
       ∙ total-as p p.label.kind refl suits quiet
@@ -504,11 +504,11 @@ module _ (test : Item → Bool) where
   words_unseen p Image is unseen suits = absurd (false≢true unseen)
   words_unseen p Svg is unseen suits = absurd (false≢true unseen)
   words_unseen p Text is unseen suits = absurd (false≢true unseen)
-  words_unseen p Map is unseen suits = words_from p suits.0 (level-kind Map (λ a b. refl) (parent_of p.above) p.label is suits.0.1.0) (ap is_inline_kind is) (ap is_atomic_as is) (ap is_text_kind is)
-  words_unseen p Area is unseen suits = words_from p suits.0 (level-kind Area (λ a b. refl) (parent_of p.above) p.label is suits.0.1.0) (ap is_inline_kind is) (ap is_atomic_as is) (ap is_text_kind is)
-  words_unseen p Group is unseen suits = words_from p suits.0 (level-kind Group (λ a b. refl) (parent_of p.above) p.label is suits.0.1.0) (ap is_inline_kind is) (ap is_atomic_as is) (ap is_text_kind is)
-  words_unseen p Shape is unseen suits = words_from p suits.0 (level-kind Shape (λ a b. refl) (parent_of p.above) p.label is suits.0.1.0) (ap is_inline_kind is) (ap is_atomic_as is) (ap is_text_kind is)
-  words_unseen p Inner is unseen suits = words_from p suits.0 (level-kind Inner (λ a b. refl) (parent_of p.above) p.label is suits.0.1.0) (ap is_inline_kind is) (ap is_atomic_as is) (ap is_text_kind is)
+  words_unseen p Map is unseen suits = words_from p suits.0 (level-kind Map (λ a b. refl) (parent_of p.above) p.label is suits.0.1.0) (ap is_inline_kind is) (ap is_atomic_as is) (ap is_text is)
+  words_unseen p Area is unseen suits = words_from p suits.0 (level-kind Area (λ a b. refl) (parent_of p.above) p.label is suits.0.1.0) (ap is_inline_kind is) (ap is_atomic_as is) (ap is_text is)
+  words_unseen p Group is unseen suits = words_from p suits.0 (level-kind Group (λ a b. refl) (parent_of p.above) p.label is suits.0.1.0) (ap is_inline_kind is) (ap is_atomic_as is) (ap is_text is)
+  words_unseen p Shape is unseen suits = words_from p suits.0 (level-kind Shape (λ a b. refl) (parent_of p.above) p.label is suits.0.1.0) (ap is_inline_kind is) (ap is_atomic_as is) (ap is_text is)
+  words_unseen p Inner is unseen suits = words_from p suits.0 (level-kind Inner (λ a b. refl) (parent_of p.above) p.label is suits.0.1.0) (ap is_inline_kind is) (ap is_atomic_as is) (ap is_text is)
 
   three_tests : (a b c : Bool) (x y z : ℕ) → a ≡ false → b ≡ false → c ≡ false → (if a then x else if b then y else if c then z else 0) ≡ 0
   three_tests a b c x y z is is' is'' = ap (λ t. if t then x else if b then y else if c then z else 0) is ∙ ap (λ t. if t then y else if c then z else 0) is' ∙ ap (λ t. if t then z else 0) is''

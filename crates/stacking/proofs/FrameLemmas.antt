@@ -19,9 +19,10 @@ use Rattle.box_tree.proofs.TakenLemmas.{taken_out-other, place_without, placed_i
 use Rattle.stacking.specs.Painting.{at, entries}
 use Rattle.stacking.specs.OnPage.{of_node}
 use Rattle.stacking.specs.Contexts.{nearest_context, context_of}
-use Rattle.stacking.specs.Frame.{changed_node, CanBeMade, is_next_to, KeepsList}
+use Rattle.box_tree.specs.Frame.{edited_node, IsFaultless}
+use Rattle.stacking.specs.Frame.{is_next_to, KeepsList}
 use Rattle.stacking.proofs.AlikeLemmas.{AlikeTrees, IsSame, same-at, real-looks, entries-alike}
-use Rattle.stacking.proofs.RestLemmas.{placed_in-deeper, occurrences-placed_in, KeepsRest, keeps-rest}
+use Rattle.stacking.proofs.RestLemmas.{placed_in-deeper, occurrences-placed_in, KeepsTrees, keeps-trees}
 
 -- a node doesn't stand in trees down to the next stacking contexts
 abbrev Hidden : ℕ → Forest → Type 0
@@ -103,7 +104,7 @@ pub record Stays (p q : Placed) : Type 0 where
   pub same : IsSame p q
   pub listed : entries p ≡ entries q
 
-module _ (page after : Contents) (x : ℕ) (keeps : KeepsRest page after x) (id : ℕ) (other : id ≢ x) where
+module _ (page after : Contents) (x : ℕ) (keeps : KeepsTrees page after x) (id : ℕ) (other : id ≢ x) where
   abbrev rest : Forest
   rest = taken_out x page.tree
 
@@ -146,7 +147,7 @@ is_below page x id distinct other some none =
         let apart : r.label.id ≢ id = grind (arith, nat_tests) in
         record { place = r; found = is; some = grind (arith, nat_tests) }
 
-module _ (page after : Contents) (x : ℕ) (keeps : KeepsRest page after x) (id : ℕ) (other : id ≢ x) (p q : Placed) (found : placed_of page id ≡ Some p) (found' : placed_of after id ≡ Some q) where
+module _ (page after : Contents) (x : ℕ) (keeps : KeepsTrees page after x) (id : ℕ) (other : id ≢ x) (p q : Placed) (found : placed_of page id ≡ Some p) (found' : placed_of after id ≡ Some q) where
   -- it stands below the changed node
   stays-below : occurrences (taken_out x page.tree) id ≡ 0 → Stays p q
   stays-below none =
@@ -167,7 +168,7 @@ module _ (page after : Contents) (x : ℕ) (keeps : KeepsRest page after x) (id 
   ]
 
 -- the list of a stacking context that stays one
-module _ (page after : Contents) (changed id : ℕ) (keeps : KeepsRest page after changed) where
+module _ (page after : Contents) (changed id : ℕ) (keeps : KeepsTrees page after changed) where
   pub keeps-list : makes_context page id ≡ true → has_id after id ≡ true → changed ≢ id → context_of page changed ≢ id → context_of after changed ≢ id → KeepsList page after id
   keeps-list real there other before later = by_places (placed_of page id) (placed_of after id) refl refl real there
     where
@@ -182,8 +183,8 @@ module _ (page after : Contents) (changed id : ℕ) (keeps : KeepsRest page afte
           }
 
 -- what an edit keeps of a page, by the node that it changes
-pub kept-by : (page : Contents) (edit : Edit) (changed : ℕ) → CanBeMade page edit → changed_node page edit ≡ Some changed → KeepsRest page (edited page edit) changed
-kept-by page edit changed can is = subst (λ o. IfSome o (KeepsRest page (edited page edit))) is (keeps-rest page edit can)
+pub kept-by : (page : Contents) (edit : Edit) (changed : ℕ) → IsFaultless page edit → edited_node page edit ≡ Some changed → KeepsTrees page (edited page edit) changed
+kept-by page edit changed can is = subst (λ o. IfSome o (KeepsTrees page (edited page edit))) is (keeps-trees page edit can)
 
 -- a stacking context that isn't next to a node
 pub record IsApart (page : Contents) (changed id : ℕ) : Type 0 where
@@ -202,7 +203,7 @@ context-there page id real = by_place (placed_of page id) real
     by_place (Some p) is = refl
 
 -- the frame law on lists
-pub frame-list : (page : Contents) (edit : Edit) (changed id : ℕ) → CanBeMade page edit → changed_node page edit ≡ Some changed → makes_context page id ≡ true → makes_context (edited page edit) id ≡ true →
+pub frame-list : (page : Contents) (edit : Edit) (changed id : ℕ) → IsFaultless page edit → edited_node page edit ≡ Some changed → makes_context page id ≡ true → makes_context (edited page edit) id ≡ true →
     is_next_to page changed id ≡ false → is_next_to (edited page edit) changed id ≡ false → of_node entries (edited page edit) id ≡ of_node entries page id
 frame-list page edit changed id can is real real' before later =
     let apart = is_apart page changed id before in
@@ -210,7 +211,7 @@ frame-list page edit changed id can is real real' before later =
     (keeps-list page (edited page edit) changed id (kept-by page edit changed can is) real (context-there (edited page edit) id real') apart.other apart.above apart'.above).listed
 
 -- an edit of the viewport leaves all trees
-pub tree-viewed : (page : Contents) (edit : Edit) → changed_node page edit ≡ None → (edited page edit).tree ≡ page.tree
+pub tree-viewed : (page : Contents) (edit : Edit) → edited_node page edit ≡ None → (edited page edit).tree ≡ page.tree
 tree-viewed page (Add parent at kind boxes style) none = absurd cc
 tree-viewed page (Remove node) none = absurd cc
 tree-viewed page (Move node parent at) none = absurd cc
@@ -221,5 +222,5 @@ tree-viewed page (Scroll node x y) none = absurd cc
 tree-viewed page (Resize w h max) none = refl
 tree-viewed page (ScrollView x y) none = refl
 
-pub view-list : (page : Contents) (edit : Edit) (id : ℕ) → changed_node page edit ≡ None → of_node entries (edited page edit) id ≡ of_node entries page id
+pub view-list : (page : Contents) (edit : Edit) (id : ℕ) → edited_node page edit ≡ None → of_node entries (edited page edit) id ≡ of_node entries page id
 view-list page edit id none = ap (λ (f : Forest). option_map_or entries (placed_in [] f id) []) (tree-viewed page edit none)

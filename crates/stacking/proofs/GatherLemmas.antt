@@ -9,7 +9,7 @@ use Rattle.box_tree.specs.declared.item.Item.{Item}
 use Rattle.box_tree.specs.Forest.{Label, Placed}
 use Rattle.box_tree.specs.Contents.{Contents, node_of, has_id, ancestor_count, IsValid}
 use Rattle.box_tree.specs.Kept.{label_of}
-use Rattle.box_tree.specs.Suits.{is_svg_content}
+use Rattle.box_tree.specs.Suits.{is_text, is_svg_content}
 use Rattle.box_tree.specs.Used.{is_in_flow, is_real_context, stack_level}
 use Rattle.box_tree.proofs.SubtreeLemmas.{few_ancestors, ancestor_count-child}
 use Rattle.stacking.specs.declared.pieces.LinePart.{LinePart}
@@ -17,7 +17,7 @@ use Rattle.stacking.specs.declared.pieces.Painted.TheVariants as painted
 use Rattle.stacking.specs.declared.pieces.LineRole.{LineRole}
 use Rattle.stacking.specs.declared.pieces.LineRole.TheVariants as role
 use Rattle.stacking.specs.declared.members.Member.{Member}
-use Rattle.stacking.specs.Painting.{Whole, Share, at, is_text_kind, is_entered, is_member, is_inline, is_atom, own_pieces, first_line, shares_in, drawn}
+use Rattle.stacking.specs.Painting.{Whole, Share, at, is_entered, is_member, is_inline, is_atom, own_pieces, first_line, shares_in, drawn}
 use Rattle.stacking.specs.OnPage.{of_node, ids_of, gathered_in, gathered, part_of, line_parts, member_of, members_of, outlines_of}
 use Rattle.stacking.proofs.PageLemmas.{gathered_from, shared, child_place, child-there, of_node-child, gathered-step, role-seen, child_label-seen, id-child, gathered-end}
 
@@ -69,13 +69,13 @@ parts_by role.Nothing n inner = []
 
 abbrev pub role_of : Option Label → Label → LineRole
 role_of parent n =
-    if is_text_kind n.kind then role.Boxes
+    if is_text n.kind then role.Boxes
     else if is_in_flow parent n && is_inline parent n then role.BoxesAndBelow
     else if is_atom parent n then role.Whole
     else role.Nothing
 
 shared-parts : (p : Placed) → shared line_parts p ≡ parts_by (at role_of p) p.label (gathered_in line_parts p)
-shared-parts p = by_tests (is_text_kind p.label.kind) (at is_in_flow p && at is_inline p) (at is_atom p)
+shared-parts p = by_tests (is_text p.label.kind) (at is_in_flow p && at is_inline p) (at is_atom p)
   where
     by_tests : (text inline atom : Bool) →
         map part_of (if text then own_pieces p.label else if inline then own_pieces p.label ++ flat_map (λ s. s.pieces) (shares_in p) else if atom then record { line = first_line p.label.boxes; paint = Whole p } ∷ [] else [])

@@ -3,73 +3,21 @@ use Rattle.std.proofs.Common.{◌≡◌, ◌≢◌, ℕ, zero, suc, ◌+◌, ◌
 use Rattle.std.specs.Option.{option_map, option_map_or}
 use Rattle.std.proofs.lemmas.Bool.{cases_lt, cases_eq}
 use Rattle.std.proofs.lemmas.Bool.Decides.{nat_tests}
-use Rattle.computed_style.specs.declared.style.Style.{Style}
 use Rattle.box_tree.specs.declared.edit.Edit.{Edit}
 use Rattle.box_tree.specs.declared.edit.Edit.TheVariants.{Add, Remove, Move, Place, Restyle, Reshape, Scroll, Resize, ScrollView}
-use Rattle.box_tree.specs.declared.kind.Kind.{Kind}
-use Rattle.box_tree.specs.declared.piece.Piece.{Piece}
-use Rattle.box_tree.specs.Forest.{Label, Forest, End, Grow, node_count, occurrences, Placed, placed_in}
-use Rattle.box_tree.specs.Contents.{Contents, placed_of, tree_of, has_id, new_label, IsValid}
-use Rattle.box_tree.specs.Edited.{put_in, put_below, planted, taken_out, relabelled, laid_out, restyled, reshaped, scrolled_node, edited}
-use Rattle.box_tree.proofs.AddLemmas.{MayAdd, may_add, once_there}
+use Rattle.box_tree.specs.Forest.{Label, Forest, End, Grow, occurrences, Placed, placed_in}
+use Rattle.box_tree.specs.Contents.{Contents, placed_of, tree_of, has_id, IsValid}
+use Rattle.box_tree.specs.Edited.{put_in, put_below, taken_out, relabelled, laid_out, restyled, reshaped, scrolled_node, edited}
+use Rattle.box_tree.specs.Frame.{edited_node, IsFaultless}
+use Rattle.box_tree.proofs.AddLemmas.{once_there}
 use Rattle.box_tree.proofs.ForestLemmas.{single, ancestors_in, placed_in-absent, placed_in-head, placed_in-below, placed_in-others, occurrences-put_in, occurrences-put_below, put_below-absent, put_below-here, put_below-other}
 use Rattle.box_tree.proofs.MoveLemmas.{may_move}
-use Rattle.box_tree.proofs.PlaceLemmas.{occurrences-relabelled, placed_in-relabelled, new_place}
+use Rattle.box_tree.proofs.PlaceLemmas.{placed_in-relabelled, new_place}
 use Rattle.box_tree.proofs.PlacedLemmas.{id-placed_in}
-use Rattle.box_tree.proofs.PlanLemmas.{planted-root, planted-below}
 use Rattle.box_tree.proofs.PutLemmas.{given-absent}
+use Rattle.box_tree.proofs.RestLemmas.{KeepsRest, keeps-rest}
 use Rattle.box_tree.proofs.SubtreeLemmas.{Head, Deeper, Beside, found_in}
-use Rattle.box_tree.proofs.TakenLemmas.{taken_out-head, taken_out-other, occurrences-taken_out, occurrences-parted}
-use Rattle.stacking.specs.Frame.{changed_node, CanBeMade}
-
--- trees at whose head a node goes or stays, each part equal
-same_rest : (goes : Bool) (first : Label) (firsts firsts' others others' : Forest) → firsts ≡ firsts' → others ≡ others' → (if goes then others else Grow first firsts others) ≡ (if goes then others' else Grow first firsts' others')
-same_rest goes first firsts firsts' others others' below beside = rw (below, beside) refl
-
--- without a tree that was put in
-taken_out-put_in : (f : Forest) (at : ℕ) (n : Label) (below : Forest) (id : ℕ) → n.id ≡ id → taken_out id (put_in at n below f) ≡ taken_out id f
-taken_out-put_in f zero n below id same = taken_out-head n below f id same
-taken_out-put_in End (suc at) n below id same = taken_out-head n below End id same
-taken_out-put_in (Grow first firsts others) (suc at) n below id same =
-    same_rest (first.id == id) first _ _ _ _ refl (taken_out-put_in others at n below id same)
-
-taken_out-put_below : (f : Forest) (parent at : ℕ) (n : Label) (below : Forest) (id : ℕ) → n.id ≡ id → taken_out id (put_below parent at n below f) ≡ taken_out id f
-taken_out-put_below End parent at n below id same = refl
-taken_out-put_below (Grow first firsts others) parent at n below id same =
-    by_test (first.id == parent) (taken_out-put_below firsts parent at n below id same) (taken_out-put_below others parent at n below id same)
-  where
-    by_test : (here : Bool) → taken_out id (put_below parent at n below firsts) ≡ taken_out id firsts → taken_out id (put_below parent at n below others) ≡ taken_out id others →
-        taken_out id (if here then Grow first (put_in at n below firsts) others else Grow first (put_below parent at n below firsts) (put_below parent at n below others)) ≡ taken_out id (Grow first firsts others)
-    by_test true deeper beside = same_rest (first.id == id) first _ _ _ _ (taken_out-put_in firsts at n below id same) refl
-    by_test false deeper beside = same_rest (first.id == id) first _ _ _ _ deeper beside
-
--- without a node that has another label
-taken_out-relabelled : (id : ℕ) (change : Label → Label) → ((n : Label) → (change n).id ≡ n.id) → (f : Forest) → taken_out id (relabelled id change f) ≡ taken_out id f
-taken_out-relabelled id change keeps End = refl
-taken_out-relabelled id change keeps (Grow n below others) =
-    by_test (n.id == id) refl (taken_out-relabelled id change keeps below) (taken_out-relabelled id change keeps others)
-  where
-    by_test : (here : Bool) → (n.id == id) ≡ here → taken_out id (relabelled id change below) ≡ taken_out id below → taken_out id (relabelled id change others) ≡ taken_out id others →
-        taken_out id (Grow (if here then change n else n) (relabelled id change below) (relabelled id change others)) ≡ taken_out id (Grow n below others)
-    by_test true is deeper beside =
-        let same : n.id ≡ id = grind (arith, nat_tests) in
-        taken_out-head (change n) (relabelled id change below) (relabelled id change others) id (keeps n ∙ same) ∙ beside ∙ sym (taken_out-head n below others id same)
-    by_test false is deeper beside = same_rest (n.id == id) n _ _ _ _ deeper beside
-
--- without a node that is gone already
-taken_out-twice : (f : Forest) (id : ℕ) → taken_out id (taken_out id f) ≡ taken_out id f
-taken_out-twice End id = refl
-taken_out-twice (Grow first firsts others) id = elim (cases_eq first.id id) [
-  | inl here ↦
-      let is = taken_out-head first firsts others id here in
-      ap (taken_out id) is ∙ taken_out-twice others id ∙ sym is
-  | inr other ↦
-      let is = taken_out-other first firsts others id other in
-      ap (taken_out id) is
-      ∙ taken_out-other first (taken_out id firsts) (taken_out id others) id other
-      ∙ same_rest false first _ _ _ _ (taken_out-twice firsts id) (taken_out-twice others id)
-      ∙ sym is
-]
+use Rattle.box_tree.proofs.TakenLemmas.{taken_out-head, taken_out-other, occurrences-parted}
 
 -- no node has another label where the node doesn't stand
 relabelled-absent : (id : ℕ) (change : Label → Label) (f : Forest) → occurrences f id ≡ 0 → relabelled id change f ≡ f
@@ -154,13 +102,12 @@ placed_in-deeper (Grow n below others) above id p other found once some = elim (
       placed_in-others n below others above other (grind (arith, nat_tests)) (omega (arith, once, some')) ∙ placed_in-deeper others above id p other is (omega (arith, once)) some
 ]
 
--- what a page that an edit of a node leaves keeps: the trees without the node, and what is below the node; no id stands twice
--- in either page
-pub record KeepsRest (page after : Contents) (changed : ℕ) : Type 0 where
-  pub rest : taken_out changed after.tree ≡ taken_out changed page.tree
-  pub below : (f g : Forest) → below_in [] page.tree changed ≡ Some f → below_in [] after.tree changed ≡ Some g → f ≡ g
-  pub distinct : (k : ℕ) → occurrences page.tree k ≤ 1
-  pub distinct_after : (k : ℕ) → occurrences after.tree k ≤ 1
+-- what is below the node that an edit changes stays, where the node is there before and after
+abbrev pub KeepsBelow : (page after : Contents) → ℕ → Type 0
+KeepsBelow page after changed = (f g : Forest) → below_in [] page.tree changed ≡ Some f → below_in [] after.tree changed ≡ Some g → f ≡ g
+
+nothing-found : (g : Forest) → None ≡ Some g → ⊥
+nothing-found g is = cc
 
 module _ (page : Contents) (valid : IsValid page) where
   -- a node doesn't stand below itself
@@ -172,118 +119,74 @@ module _ (page : Contents) (valid : IsValid page) where
       grind (arith, nat_tests, more, once)
 
   -- a node with another label
-  keeps-relabelled : (id : ℕ) (change : Label → Label) → ((n : Label) → (change n).id ≡ n.id) → KeepsRest page (record page { tree = relabelled id change page.tree }) id
-  keeps-relabelled id change keeps = record {
-    rest = taken_out-relabelled id change keeps page.tree;
-    below = λ f g found found'. below-at (placed_of page id) refl f g found (sym (ap (option_map (λ p. p.below)) (placed_in-relabelled id change keeps page.tree [] id)) ∙ found');
-    distinct = valid.distinct;
-    distinct_after = λ k. omega (arith, occurrences-relabelled id change keeps page.tree k, valid.distinct k);
-  }
+  below-relabelled : (id : ℕ) (change : Label → Label) → ((n : Label) → (change n).id ≡ n.id) → KeepsBelow page (record page { tree = relabelled id change page.tree }) id
+  below-relabelled id change keeps f g found found' = by_place (placed_of page id) refl found (sym (ap (option_map (λ p. p.below)) (placed_in-relabelled id change keeps page.tree [] id)) ∙ found')
     where
-      below-at : (o : Option Placed) → placed_of page id ≡ o → (f g : Forest) → option_map (λ p. p.below) o ≡ Some f → option_map (λ p. p.below) (option_map (new_place id change keeps) o) ≡ Some g → f ≡ g
-      below-at None is f g found found' = absurd cc
-      below-at (Some p) is f g found found' =
+      by_place : (o : Option Placed) → placed_of page id ≡ o → option_map (λ p. p.below) o ≡ Some f → option_map (λ p. p.below) (option_map (new_place id change keeps) o) ≡ Some g → f ≡ g
+      by_place None is before later = absurd cc
+      by_place (Some p) is before later =
           let same : p.below ≡ f = cc in
           let same' : relabelled id change p.below ≡ g = cc in
           sym same ∙ sym (relabelled-absent id change p.below (once-below id p is)) ∙ same'
 
   -- a node that is gone
-  keeps-removed : (id : ℕ) → KeepsRest page (edited page (Remove id)) id
-  keeps-removed id = record {
-    rest = taken_out-twice page.tree id;
-    below = λ f g found found'. absurd (none g (sym (ap (option_map (λ p. p.below)) (placed_in-absent (taken_out id page.tree) [] id (gone page.tree id))) ∙ found'));
-    distinct = valid.distinct;
-    distinct_after = λ k. omega (arith, occurrences-taken_out page.tree id k, valid.distinct k);
-  }
-    where
-      none : (g : Forest) → None ≡ Some g → ⊥
-      none g is = cc
+  below-removed : (id : ℕ) → KeepsBelow page (edited page (Remove id)) id
+  below-removed id f g found found' = absurd (nothing-found g (sym (ap (option_map (λ p. p.below)) (placed_in-absent (taken_out id page.tree) [] id (gone page.tree id))) ∙ found'))
 
-  -- a new node
-  module _ (parent at : ℕ) (kind : Kind) (boxes : List Piece) (style : Style) (may : MayAdd page parent at kind style boxes) where
-    abbrev label : Label
-    label = new_label page.next kind style boxes
-
-    nothing : (f : Forest) → node_count f ≡ 0 → f ≡ End
-    nothing End none = refl
-    nothing (Grow n below others) none = absurd (omega arith)
-
-    absent : occurrences page.tree page.next ≡ 0
-    absent = given-absent page.tree [] page.next page.next valid.given (inr (omega arith))
-
-    once-planted : (k : ℕ) → occurrences (planted parent at label End page.tree) k ≤ 1
-    once-planted k = elim (cases_eq parent 0) [
-      | inl none_named ↦ rw (planted-root parent at label page.tree none_named) (grind (arith, nat_tests))
-      | inr named ↦
-          let there : has_id page parent ≡ true = elim may.present [
-            | inl none_named ↦ absurd (named none_named)
-            | inr is ↦ is
-          ] in
-          rw (planted-below parent at label page.tree named, occurrences-put_below page.tree parent at label End k (once_there page parent valid there)) (grind (arith, nat_tests, absent, valid.distinct k))
-    ]
-
-    keeps-added : KeepsRest page (edited page (Add parent at kind boxes style)) page.next
-    keeps-added = record {
-      rest = elim (cases_eq parent 0) [
-        | inl none_named ↦
-            ap (taken_out page.next) (planted-root parent at label page.tree none_named)
-            ∙ taken_out-head label End End page.next refl
-            ∙ sym (ap (taken_out page.next) (nothing page.tree (may.root none_named)))
-        | inr named ↦ ap (taken_out page.next) (planted-below parent at label page.tree named) ∙ taken_out-put_below page.tree parent at label End page.next refl
-      ];
-      below = λ f g found found'. absurd (none f (sym (ap (option_map (λ p. p.below)) (placed_in-absent page.tree [] page.next absent)) ∙ found));
-      distinct = valid.distinct;
-      distinct_after = once-planted;
-    }
-      where
-        none : (g : Forest) → None ≡ Some g → ⊥
-        none g is = cc
+  -- a node that is new
+  below-added : (after : Contents) → KeepsBelow page after page.next
+  below-added after f g found found' =
+      let absent : occurrences page.tree page.next ≡ 0 = given-absent page.tree [] page.next page.next valid.given (inr (omega arith)) in
+      absurd (nothing-found f (sym (ap (option_map (λ p. p.below)) (placed_in-absent page.tree [] page.next absent)) ∙ found))
 
   -- a node at another place
-  module _ (id parent at : ℕ) (there : has_id page parent ≡ true) (apart : occurrences (tree_of page id) parent ≡ 0) where
-    once-rest : occurrences (taken_out id page.tree) parent ≡ 1
-    once-rest = omega (arith, occurrences-parted page.tree [] id parent (valid.distinct id), once_there page parent valid there, apart)
+  below-moved : (id parent at : ℕ) → has_id page parent ≡ true → occurrences (tree_of page id) parent ≡ 0 → KeepsBelow page (edited page (Move id parent at)) id
+  below-moved id parent at there apart f g = by_place (placed_of page id) refl
+    where
+      once : occurrences (taken_out id page.tree) parent ≡ 1
+      once = omega (arith, occurrences-parted page.tree [] id parent (valid.distinct id), once_there page parent valid there, apart)
 
-    rest-at : (o : Option Placed) → placed_of page id ≡ o → taken_out id (option_map_or (λ p. put_below parent at p.label p.below (taken_out id page.tree)) o page.tree) ≡ taken_out id page.tree
-    rest-at None found = refl
-    rest-at (Some p) found = taken_out-put_below (taken_out id page.tree) parent at p.label p.below id (id-placed_in page.tree [] id p found) ∙ taken_out-twice page.tree id
-
-    once-at : (k : ℕ) (o : Option Placed) → placed_of page id ≡ o → occurrences (option_map_or (λ p. put_below parent at p.label p.below (taken_out id page.tree)) o page.tree) k ≤ 1
-    once-at k None found = valid.distinct k
-    once-at k (Some p) found =
-        let tree_is : tree_of page id ≡ single p.label p.below = ap (λ o. option_map_or (λ q. Grow q.label q.below End) o End) found in
-        rw (occurrences-put_below (taken_out id page.tree) parent at p.label p.below k once-rest)
-        (omega (arith, occurrences-parted page.tree [] id k (valid.distinct id), ap (λ f. occurrences f k) tree_is, valid.distinct k))
-
-    below-at : (o : Option Placed) → placed_of page id ≡ o → (f g : Forest) → option_map (λ p. p.below) o ≡ Some f → below_in [] (option_map_or (λ p. put_below parent at p.label p.below (taken_out id page.tree)) o page.tree) id ≡ Some g → f ≡ g
-    below-at None is f g found found' = absurd cc
-    below-at (Some p) is f g found found' =
-        let here : p.label.id ≡ id = id-placed_in page.tree [] id p is in
-        let put : below_in [] (put_below parent at p.label p.below (taken_out id page.tree)) p.label.id ≡ Some p.below =
-        ap (option_map (λ q. q.below)) (place-put_below (taken_out id page.tree) [] parent at p.label p.below (ap (occurrences (taken_out id page.tree)) here ∙ gone page.tree id) once-rest) in
-        let put' : Some p.below ≡ Some g = sym put ∙ ap (below_in [] (put_below parent at p.label p.below (taken_out id page.tree))) here ∙ found' in
-        let same : p.below ≡ f = cc in
-        let same' : p.below ≡ g = cc in
-        sym same ∙ same'
-
-    keeps-moved : KeepsRest page (edited page (Move id parent at)) id
-    keeps-moved = record {
-      rest = rest-at (placed_of page id) refl;
-      below = below-at (placed_of page id) refl;
-      distinct = valid.distinct;
-      distinct_after = λ k. once-at k (placed_of page id) refl;
-    }
+      by_place : (o : Option Placed) → placed_of page id ≡ o → option_map (λ p. p.below) o ≡ Some f → below_in [] (option_map_or (λ p. put_below parent at p.label p.below (taken_out id page.tree)) o page.tree) id ≡ Some g → f ≡ g
+      by_place None is found found' = absurd cc
+      by_place (Some p) is found found' =
+          let here : p.label.id ≡ id = id-placed_in page.tree [] id p is in
+          let put : below_in [] (put_below parent at p.label p.below (taken_out id page.tree)) p.label.id ≡ Some p.below =
+          ap (option_map (λ q. q.below)) (place-put_below (taken_out id page.tree) [] parent at p.label p.below (ap (occurrences (taken_out id page.tree)) here ∙ gone page.tree id) once) in
+          let put' : Some p.below ≡ Some g = sym put ∙ ap (below_in [] (put_below parent at p.label p.below (taken_out id page.tree))) here ∙ found' in
+          let same : p.below ≡ f = cc in
+          let same' : p.below ≡ g = cc in
+          sym same ∙ same'
 
 -- each edit of a node
-pub keeps-rest : (page : Contents) (edit : Edit) → CanBeMade page edit → IfSome (changed_node page edit) (KeepsRest page (edited page edit))
-keeps-rest page (Add parent at kind boxes style) can = keeps-added page can.valid parent at kind boxes style (may_add page parent at kind style boxes can.none)
-keeps-rest page (Remove id) can = keeps-removed page can.valid id
-keeps-rest page (Move id parent at) can =
-    let may = may_move page id parent at can.none in
-    keeps-moved page can.valid id parent at may.parent_there may.apart
-keeps-rest page (Place id anchor boxes max) can = keeps-relabelled page can.valid id (laid_out anchor boxes max) (λ n. refl)
-keeps-rest page (Restyle id style) can = keeps-relabelled page can.valid id (restyled style) (λ n. refl)
-keeps-rest page (Reshape id form) can = keeps-relabelled page can.valid id (reshaped form) (λ n. refl)
-keeps-rest page (Scroll id x y) can = keeps-relabelled page can.valid id (scrolled_node x y) (λ n. refl)
-keeps-rest page (Resize w h max) can = tt
-keeps-rest page (ScrollView x y) can = tt
+keeps-below : (page : Contents) (edit : Edit) → IsFaultless page edit → IfSome (edited_node page edit) (KeepsBelow page (edited page edit))
+keeps-below page (Add parent at kind boxes style) faultless = below-added page faultless.valid (edited page (Add parent at kind boxes style))
+keeps-below page (Remove id) faultless = below-removed page faultless.valid id
+keeps-below page (Move id parent at) faultless =
+    let may = may_move page id parent at faultless.none in
+    below-moved page faultless.valid id parent at may.parent_there may.apart
+keeps-below page (Place id anchor boxes max) faultless = below-relabelled page faultless.valid id (laid_out anchor boxes max) (λ n. refl)
+keeps-below page (Restyle id style) faultless = below-relabelled page faultless.valid id (restyled style) (λ n. refl)
+keeps-below page (Reshape id form) faultless = below-relabelled page faultless.valid id (reshaped form) (λ n. refl)
+keeps-below page (Scroll id x y) faultless = below-relabelled page faultless.valid id (scrolled_node x y) (λ n. refl)
+keeps-below page (Resize w h max) faultless = tt
+keeps-below page (ScrollView x y) faultless = tt
+
+-- what a page that an edit of a node leaves keeps: the trees without the node, and what is below the node; no id stands twice
+-- in either page
+pub record KeepsTrees (page after : Contents) (changed : ℕ) : Type 0 where
+  pub rest : taken_out changed after.tree ≡ taken_out changed page.tree
+  pub below : KeepsBelow page after changed
+  pub distinct : (k : ℕ) → occurrences page.tree k ≤ 1
+  pub distinct_after : (k : ℕ) → occurrences after.tree k ≤ 1
+
+pub keeps-trees : (page : Contents) (edit : Edit) → IsFaultless page edit → IfSome (edited_node page edit) (KeepsTrees page (edited page edit))
+keeps-trees page edit faultless = by_node (edited_node page edit) (keeps-rest page edit faultless) (keeps-below page edit faultless)
+  where
+    by_node : (o : Option ℕ) → IfSome o (KeepsRest page (edited page edit)) → IfSome o (KeepsBelow page (edited page edit)) → IfSome o (KeepsTrees page (edited page edit))
+    by_node None keeps below = tt
+    by_node (Some changed) keeps below = record {
+      rest = keeps.rest;
+      below = below;
+      distinct = keeps.distinct;
+      distinct_after = keeps.distinct_after;
+    }

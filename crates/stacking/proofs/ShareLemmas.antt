@@ -5,7 +5,8 @@ use Rattle.std.specs.List.{flat_map, AllByRecursion}
 use Rattle.box_tree.specs.declared.piece.Piece.{Piece}
 use Rattle.box_tree.specs.Forest.{Label, Forest, End, Grow, Placed}
 use Rattle.box_tree.specs.Used.{is_in_flow, is_real_context}
-use Rattle.stacking.specs.Painting.{Paint, OneBox, Whole, LinePiece, Share, at, is_text_kind, is_replaced_kind, is_inline, is_atom, is_entered, is_block, is_float, is_member, box_pieces, own_pieces, first_line, pieces_with, share_of, shares_of, shares_in, reach, blocks, floats, pieces, is_on_lower_line, is_on_lower_level, context_members}
+use Rattle.box_tree.specs.Suits.{is_text}
+use Rattle.stacking.specs.Painting.{Paint, OneBox, Whole, LinePiece, Share, at, is_replaced_kind, is_inline, is_atom, is_entered, is_block, is_float, is_member, box_pieces, own_pieces, first_line, pieces_with, share_of, shares_of, shares_in, reach, blocks, floats, pieces, is_on_lower_line, is_on_lower_level, context_members}
 use Rattle.stacking.specs.Sorting.{sorted_by}
 use Rattle.stacking.proofs.ListLemmas.{each-append, each-flat_map, each-weaken, each-if, each-filter, each-sorted}
 
@@ -46,7 +47,7 @@ module _ (P : Placed → Type 0) where
   in-pieces_with : (inner : List LinePiece) (p : Placed) → P p → AllByRecursion (HoldsOfPiece P) inner → AllByRecursion (HoldsOfPiece P) (pieces_with inner p)
   in-pieces_with inner p one all =
       let boxes = of-box_pieces p.label.id 0 p.label.boxes in
-      each-if (HoldsOfPiece P) (is_text_kind p.label.kind) (own_pieces p.label) _ boxes
+      each-if (HoldsOfPiece P) (is_text p.label.kind) (own_pieces p.label) _ boxes
       (each-if (HoldsOfPiece P) (at is_in_flow p && at is_inline p) (own_pieces p.label ++ inner) _ (each-append (HoldsOfPiece P) (own_pieces p.label) inner boxes all)
       (each-if (HoldsOfPiece P) (at is_atom p) (record { line = first_line p.label.boxes; paint = Whole p } ∷ []) [] (one, tt) tt))
 

@@ -30,7 +30,8 @@ use Rattle.stacking.proofs.ListLemmas.{each-weaken}
 use Rattle.box_tree.proofs.PlacedLemmas.{id-placed_in, AreAtPlaces, found-at_places}
 use Rattle.box_tree.proofs.CountLemmas.{times_in-append, times_in-ids_in}
 use Rattle.box_tree.proofs.MoveLemmas.{may_move}
-use Rattle.stacking.specs.Frame.{is_next_to, can_change, changed_node, CanBeMade, KeepsList}
+use Rattle.box_tree.specs.Frame.{edited_node, IsFaultless}
+use Rattle.stacking.specs.Frame.{is_next_to, can_change, KeepsList}
 use Rattle.stacking.specs.Contexts.{nearest_context, context_of}
 use Rattle.stacking.specs.Touched.{contexts_among, context_around, near, new_context, candidates}
 
@@ -343,7 +344,7 @@ module _ (page : Contents) (valid : IsValid page) where
     not_zero is = absurd (grind (arith, once-k, zero-absent, ap (occurrences page.tree) is))
 
     -- one that is neither the edited node nor the next above it
-    kept-list : (edit : Edit) (x : ℕ) → CanBeMade page edit → changed_node page edit ≡ Some x → 0 < occurrences (edited page edit).tree k → x ≢ k → context_of page x ≢ k → context_of (edited page edit) x ≢ k → KeepsList page (edited page edit) k
+    kept-list : (edit : Edit) (x : ℕ) → IsFaultless page edit → edited_node page edit ≡ Some x → 0 < occurrences (edited page edit).tree k → x ≢ k → context_of page x ≢ k → context_of (edited page edit) x ≢ k → KeepsList page (edited page edit) k
     kept-list edit x can is stands other before later = keeps-list page (edited page edit) x k (kept-by page edit x can is) real (placed_in-present (edited page edit).tree [] k stands) other before later
 
     first-false : (a b : Bool) → (a || b) ≡ false → a ≡ false
@@ -360,7 +361,7 @@ module _ (page : Contents) (valid : IsValid page) where
     not_itself : (x : ℕ) → is_among (near page x) k ≡ false → x ≢ k
     not_itself x is = let differ = first-false (x == k) _ (then-false (context_of page x == k) _ is) in grind (arith, nat_tests, differ)
 
-    relabelled-all : (edit : Edit) (id : ℕ) (change : Label → Label) (keeps : (n : Label) → (change n).id ≡ n.id) → CanBeMade page edit → changed_node page edit ≡ Some id → edited page edit ≡ record page { tree = relabelled id change page.tree } → is_among (near page id) k ≡ false → KeepsList page (edited page edit) k
+    relabelled-all : (edit : Edit) (id : ℕ) (change : Label → Label) (keeps : (n : Label) → (change n).id ≡ n.id) → IsFaultless page edit → edited_node page edit ≡ Some id → edited page edit ≡ record page { tree = relabelled id change page.tree } → is_among (near page id) k ≡ false → KeepsList page (edited page edit) k
     relabelled-all edit id change keeps can is after_is apart =
         kept-list edit id can is
         (omega (arith, ap (λ (p : Contents). occurrences p.tree k) after_is, occurrences-relabelled id change keeps page.tree k, once-k))
@@ -391,7 +392,7 @@ module _ (page : Contents) (valid : IsValid page) where
     pub candidates-all : (edit : Edit) → first_fault page edit ≡ None → is_among (candidates page edit) k ≡ false → KeepsList page (edited page edit) k
     candidates-all (Add parent at kind boxes style) none apart =
         let edit = Add parent at kind boxes style in
-        let can : CanBeMade page edit = record { valid = valid; none = none } in
+        let can : IsFaultless page edit = record { valid = valid; none = none } in
         let may = may_add page parent at kind style boxes none in
         let absent : occurrences page.tree page.next ≡ 0 = given-absent page.tree [] page.next page.next valid.given (inr (omega arith)) in
         let new_one : page.next ≢ k = λ same. absurd (grind (arith, once-k, absent, ap (occurrences page.tree) same)) in
@@ -404,7 +405,7 @@ module _ (page : Contents) (valid : IsValid page) where
         (λ same. let is : context_around page parent ≡ k = sym (context-added parent at kind boxes style may) ∙ same in absurd (grind (arith, nat_tests, is, around)))
     candidates-all (Remove id) none apart =
         let edit = Remove id in
-        let can : CanBeMade page edit = record { valid = valid; none = none } in
+        let can : IsFaultless page edit = record { valid = valid; none = none } in
         let above = first-false (context_of page id == k) _ apart in
         let out : nat_lt 0 (occurrences (tree_of page id) k) ≡ false = sym (is_among-ids_in (tree_of page id) k) ∙ then-false (context_of page id == k) _ apart in
         let none_there : occurrences (tree_of page id) k ≡ 0 = grind (arith, nat_tests, out) in
@@ -419,7 +420,7 @@ module _ (page : Contents) (valid : IsValid page) where
         itself id out there same = absurd (omega (arith, near-tree id k there, ap (λ (i : ℕ). times_in k (i ∷ roots_of (below_of page id))) same, times-own k (roots_of (below_of page id)), out))
     candidates-all (Move id parent at) none apart =
         let edit = Move id parent at in
-        let can : CanBeMade page edit = record { valid = valid; none = none } in
+        let can : IsFaultless page edit = record { valid = valid; none = none } in
         let may = may_move page id parent at none in
         let there = named_there page edit none in
         let parts : (is_among (near page id) k || is_among (new_context page id parent) k) ≡ false = sym (among-both (near page id) (new_context page id parent) k) ∙ apart in

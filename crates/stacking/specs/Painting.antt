@@ -2,22 +2,18 @@
 use Rattle.std.specs.Prelude.{ℕ, zero, suc, ◌+◌, List, [], ◌∷◌, ◌++◌, map, Option, Bool, true, false, not, ◌&&◌, ◌||◌, if◌then◌else◌, ℤ, pos, int_lt, nat_lt}
 use Rattle.std.specs.List.{filter, flat_map}
 use Rattle.box_tree.specs.declared.kind.Kind.{Kind}
-use Rattle.box_tree.specs.declared.kind.Kind.TheVariants.{Inline, Image, Svg, Text}
+use Rattle.box_tree.specs.declared.kind.Kind.TheVariants.{Inline, Image, Svg}
 use Rattle.box_tree.specs.declared.piece.Piece.{Piece}
 use Rattle.box_tree.specs.declared.item.Item.{Item}
 use Rattle.box_tree.specs.declared.item.Part.TheVariants.{Box}
 use Rattle.box_tree.specs.Forest.{Label, Forest, End, Grow, height_of, Placed}
 pub use Rattle.box_tree.specs.Items.{box_items, content_item, drawn_as, drawn}
-use Rattle.box_tree.specs.Suits.{is_svg_content}
+use Rattle.box_tree.specs.Suits.{is_text, is_svg_content}
 use Rattle.box_tree.specs.Containing.{parent_of}
 use Rattle.box_tree.specs.Used.{is_floating, is_block_level, is_block_container, is_atomic, is_positioned, is_real_context, stack_level, is_in_flow}
 use Rattle.stacking.specs.Sorting.{sorted_by}
 
 -- What a node is to the walk. Each word is a function of the node's parent (none for the root) and of the node.
-
-abbrev pub is_text_kind : Kind → Bool
-is_text_kind Text = true
-is_text_kind kind = false
 
 abbrev pub is_inline_kind : Kind → Bool
 is_inline_kind Inline = true
@@ -111,7 +107,7 @@ first_line (box ∷ boxes) = box.line
 -- in flow gives one piece; others give none
 abbrev pub pieces_with : List LinePiece → Placed → List LinePiece
 pieces_with inner p =
-    if is_text_kind p.label.kind then own_pieces p.label
+    if is_text p.label.kind then own_pieces p.label
     else if at is_in_flow p && at is_inline p then own_pieces p.label ++ inner
     else if at is_atom p then record { line = first_line p.label.boxes; paint = Whole p } ∷ []
     else []

@@ -1,7 +1,6 @@
 ghost use Rattle.std.specs.Prelude.{◌≡◌, ◌++◌, IsTrue, IfOk};
 ghost use Rattle.box_tree.specs.Contents.{IsValid, has_id};
 ghost use Rattle.box_tree.specs.Kept.{label_of};
-ghost use Rattle.box_tree.specs.Suits.{is_svg_content as stands_in_svg};
 ghost use Rattle.stacking.specs.Painting.{drawn, content};
 ghost use Rattle.stacking.specs.OnPage.{of_node, gathered, outlines_of};
 
@@ -40,29 +39,12 @@ fn push_outlines(page: &Page, id: u32, items: &mut Vec<Item>) -> Result<(), OutO
     let node = read(page, id);
     for child in node.children.as_slice() {
         let inner = read(page, *child);
-        if is_svg_content(inner.kind) {
+        if inner.kind.is_svg_content() {
             push_drawn(inner, items)?;
             push_outlines(page, *child, items)?;
         }
     }
     Ok(())
-}
-
-// Whether a node stands inside of SVG content.
-fn is_svg_content(kind: Kind) -> bool
-    ensures { result ≡ stands_in_svg kind }
-{
-    match kind {
-        Kind::Group | Kind::Shape | Kind::Inner => true,
-        Kind::Block
-        | Kind::Inline
-        | Kind::InlineBlock
-        | Kind::Image
-        | Kind::Svg
-        | Kind::Text
-        | Kind::Map
-        | Kind::Area => false,
-    }
 }
 
 // Appends what a node is drawn as beside its boxes: the picture of an image that has a box, and the outline of a shape.

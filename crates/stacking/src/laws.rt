@@ -5,7 +5,8 @@ ghost use Rattle.box_tree.specs.Contents.{Contents};
 ghost use Rattle.box_tree.specs.Containing.{makes_context};
 ghost use Rattle.box_tree.specs.Edited.{edited};
 ghost use Rattle.stacking.specs.Counting.{AllItemsArePainted, EachItemIsPaintedOnce};
-ghost use Rattle.stacking.specs.Frame.{changed_node, CanBeMade, is_next_to};
+ghost use Rattle.box_tree.specs.Frame.{edited_node, IsFaultless};
+ghost use Rattle.stacking.specs.Frame.{is_next_to};
 ghost use Rattle.stacking.specs.OnPage.{of_node};
 ghost use Rattle.stacking.specs.Painting.{entries};
 ghost use Rattle.stacking.specs.Laws.{FlatIsInParts, LinesAreInOrder, LayerIsInParts};
@@ -41,7 +42,7 @@ pub fn each_item_is_painted_once()
 /// An edit of a node leaves the list of each stacking context that is one before and after, and that neither before nor after
 /// is the next one above the node, the node itself or a child of it. An edit of the viewport leaves all lists.
 pub fn frame_lists()
-    ensures lists { (page : Contents) (edit : Edit) (changed id : ℕ) → CanBeMade page edit → changed_node page edit ≡ Some changed → IsTrue (makes_context page id) → IsTrue (makes_context (edited page edit) id) →
+    ensures lists { (page : Contents) (edit : Edit) (changed id : ℕ) → IsFaultless page edit → edited_node page edit ≡ Some changed → IsTrue (makes_context page id) → IsTrue (makes_context (edited page edit) id) →
         IsFalse (is_next_to page changed id) → IsFalse (is_next_to (edited page edit) changed id) → of_node entries (edited page edit) id ≡ of_node entries page id }
-    ensures view_lists { (page : Contents) (edit : Edit) (id : ℕ) → changed_node page edit ≡ None → of_node entries (edited page edit) id ≡ of_node entries page id }
+    ensures view_lists { (page : Contents) (edit : Edit) (id : ℕ) → edited_node page edit ≡ None → of_node entries (edited page edit) id ≡ of_node entries page id }
 {}

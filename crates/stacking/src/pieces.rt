@@ -3,14 +3,15 @@ ghost use Rattle.std.specs.Option.{option_map, option_copied};
 ghost use Rattle.box_tree.specs.Contents.{IsValid, has_id};
 ghost use Rattle.box_tree.specs.Kept.{label_of};
 ghost use Rattle.box_tree.specs.Used.{is_in_flow};
-ghost use Rattle.stacking.specs.Painting.{is_text_kind, is_inline, is_atom, own_pieces, first_line, pieces, is_on_lower_line};
+ghost use Rattle.box_tree.specs.Suits.{is_text};
+ghost use Rattle.stacking.specs.Painting.{is_inline, is_atom, own_pieces, first_line, pieces, is_on_lower_line};
 ghost use Rattle.stacking.specs.Sorting.{sorted_by};
 ghost use Rattle.stacking.specs.OnPage.{of_node, gathered, part_of, line_parts, line_pieces};
 
 use crate::items::box_item;
 use crate::memory::OutOfMemory;
 use crate::reading::{parent_in, read};
-use crate::roles::{is_atom, is_inline, is_text};
+use crate::roles::{is_atom, is_inline};
 use box_tree::{Item, Node, Page, Piece, is_in_flow};
 use std::alloc::Global;
 
@@ -80,12 +81,12 @@ fn push_below(page: &Page, id: u32, parts: &mut Vec<LinePart>) -> Result<(), Out
 // What a child of a node gives to the lines around it.
 fn line_role(parent: &Node, node: &Node) -> LineRole
     ensures { result ≡ (let n = label_of node.now in
-        if is_text_kind n.kind then LineRole.Boxes
+        if is_text n.kind then LineRole.Boxes
         else if is_in_flow (Some (label_of parent.now)) n && is_inline (Some (label_of parent.now)) n then LineRole.BoxesAndBelow
         else if is_atom (Some (label_of parent.now)) n then LineRole.Whole
         else LineRole.Nothing) }
 {
-    if is_text(node.kind) {
+    if node.kind.is_text() {
         LineRole::Boxes
     } else if is_in_flow(Some(parent), node) && is_inline(Some(parent), node) {
         LineRole::BoxesAndBelow

@@ -2,31 +2,12 @@ ghost use Rattle.std.specs.Prelude.{◌≡◌};
 ghost use Rattle.std.specs.Option.{option_map, option_copied};
 ghost use Rattle.box_tree.specs.Kept.{label_of};
 ghost use Rattle.box_tree.specs.Used.{is_real_context};
-ghost use Rattle.stacking.specs.Painting.{is_text_kind, is_inline_kind, is_replaced_kind, is_entered, is_block, is_member, is_float, is_inline, is_atom, has_head};
+ghost use Rattle.stacking.specs.Painting.{is_inline_kind, is_replaced_kind, is_entered, is_block, is_member, is_float, is_inline, is_atom, has_head};
 
 use box_tree::{
     Kind, Node, is_atomic, is_block_container, is_block_level, is_floating, is_in_flow,
     is_positioned, is_real_context,
 };
-
-// Whether a node is a text.
-pub(crate) fn is_text(kind: Kind) -> bool
-    ensures { result ≡ is_text_kind kind }
-{
-    match kind {
-        Kind::Text => true,
-        Kind::Block
-        | Kind::Inline
-        | Kind::InlineBlock
-        | Kind::Image
-        | Kind::Svg
-        | Kind::Map
-        | Kind::Area
-        | Kind::Group
-        | Kind::Shape
-        | Kind::Inner => false,
-    }
-}
 
 // Whether a node is an inline.
 fn is_inline_kind(kind: Kind) -> bool
