@@ -16,3 +16,5 @@ pub mod AlikeLemmas
 pub mod RestLemmas
 pub mod FrameLemmas
 pub mod TouchedLemmas
+pub mod MemberLemmas
+pub mod NestLemmas

@@ -1,10 +1,14 @@
 -- The list of a stacking context as it is kept: each item by its number.
-use Rattle.std.specs.Prelude.{ℕ, slice_index_or}
+use Rattle.std.specs.Prelude.{◌≡◌, ℕ, map, Some, None, slice_index_or, if◌then◌else◌}
 use Rattle.box_tree.specs.declared.item.Item.{Item}
+use Rattle.box_tree.specs.Contents.{Contents}
+use Rattle.box_tree.specs.Containing.{makes_context}
 use Rattle.box_tree.specs.Numbers.{ItemsState, numbers_of, place_of}
 use Rattle.paint_order.specs.declared.entry.Entry.{Entry}
 use Rattle.paint_order.specs.declared.entry.Entry.TheVariants as entry
-use Rattle.stacking.specs.Painting.{ContextEntry, OneItem, SubContext}
+use Rattle.paint_order.specs.Lists.{Lists, list_under}
+use Rattle.stacking.specs.Painting.{ContextEntry, OneItem, SubContext, entries}
+use Rattle.stacking.specs.OnPage.{of_node}
 
 -- the number of an item of the page: that of its place among the items of its node
 abbrev pub number_of : ItemsState → Item → ℕ
@@ -14,3 +18,8 @@ number_of s item = slice_index_or (numbers_of s item.node) (place_of item.part) 
 abbrev pub numbered : ItemsState → ContextEntry → Entry
 numbered s (OneItem item) = entry.Item (number_of s item)
 numbered s (SubContext id) = entry.Sub id
+
+-- the table has the list of each real stacking context of the page under the id of the context, and no other list
+abbrev pub AreListsOf : Lists → Contents → ItemsState → Type 0
+AreListsOf lists page items =
+    (id : ℕ) → list_under lists id ≡ (if makes_context page id then Some (map (numbered items) (of_node entries page id)) else None)

@@ -1,14 +1,18 @@
 //! The rules of the painting order as sentences, each the contract of a function without a body.
-ghost use Rattle.std.specs.Prelude.{◌≡◌, ℕ, Some, None, IsTrue, IsFalse};
+ghost use Rattle.std.specs.Prelude.{◌≡◌, ℕ, map, Some, None, IsTrue, IsFalse};
 ghost use Rattle.box_tree.specs.declared.edit.Edit.{Edit};
-ghost use Rattle.box_tree.specs.Contents.{Contents};
+ghost use Rattle.box_tree.specs.Contents.{Contents, IsValid};
 ghost use Rattle.box_tree.specs.Containing.{makes_context};
 ghost use Rattle.box_tree.specs.Edited.{edited};
+ghost use Rattle.box_tree.specs.Numbers.{ItemsState};
+ghost use Rattle.paint_order.specs.Lists.{Lists};
+ghost use Rattle.paint_order.specs.Order.{flattened, NestWithin};
 ghost use Rattle.stacking.specs.Counting.{AllItemsArePainted, EachItemIsPaintedOnce};
 ghost use Rattle.box_tree.specs.Frame.{edited_node, IsFaultless};
 ghost use Rattle.stacking.specs.Frame.{is_next_to};
+ghost use Rattle.stacking.specs.Lists.{number_of, AreListsOf};
 ghost use Rattle.stacking.specs.OnPage.{of_node};
-ghost use Rattle.stacking.specs.Painting.{entries};
+ghost use Rattle.stacking.specs.Painting.{entries, layer};
 ghost use Rattle.stacking.specs.Laws.{FlatIsInParts, LinesAreInOrder, LayerIsInParts};
 
 /// A node that is painted as one gives its head, the boxes of the blocks in it, the floats in it, each painted as one, its
@@ -45,4 +49,15 @@ pub fn frame_lists()
     ensures lists { (page : Contents) (edit : Edit) (changed id : ℕ) → IsFaultless page edit → edited_node page edit ≡ Some changed → IsTrue (makes_context page id) → IsTrue (makes_context (edited page edit) id) →
         IsFalse (is_next_to page changed id) → IsFalse (is_next_to (edited page edit) changed id) → of_node entries (edited page edit) id ≡ of_node entries page id }
     ensures view_lists { (page : Contents) (edit : Edit) (id : ℕ) → edited_node page edit ≡ None → of_node entries (edited page edit) id ≡ of_node entries page id }
+{}
+
+/// With the list of each real stacking context of a valid page in a table, lists nest at most 256 deep.
+pub fn lists_nest()
+    ensures { (page : Contents) (items : ItemsState) (lists : Lists) → IsValid page → AreListsOf lists page items → NestWithin 256 lists }
+{}
+
+/// With the list of each real stacking context of a valid page in a table, the flattened list of one has the numbers of the
+/// items of its layer.
+pub fn lists_flatten_to_the_layer()
+    ensures { (page : Contents) (items : ItemsState) (lists : Lists) (id : ℕ) → IsValid page → AreListsOf lists page items → IsTrue (makes_context page id) → flattened 256 lists id ≡ map (number_of items) (of_node layer page id) }
 {}
