@@ -18,3 +18,5 @@ pub mod FrameLemmas
 pub mod TouchedLemmas
 pub mod MemberLemmas
 pub mod NestLemmas
+pub mod WeightLemmas
+pub mod EntryLemmas

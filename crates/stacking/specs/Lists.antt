@@ -1,5 +1,5 @@
 -- The list of a stacking context as it is kept: each item by its number.
-use Rattle.std.specs.Prelude.{◌≡◌, ℕ, map, Some, None, slice_index_or, if◌then◌else◌}
+use Rattle.std.specs.Prelude.{◌≡◌, ℕ, map, Some, None, IsTrue, slice_get, slice_index_or, if◌then◌else◌}
 use Rattle.box_tree.specs.declared.item.Item.{Item}
 use Rattle.box_tree.specs.Contents.{Contents}
 use Rattle.box_tree.specs.Containing.{makes_context}
@@ -23,3 +23,8 @@ numbered s (SubContext id) = entry.Sub id
 abbrev pub AreListsOf : Lists → Contents → ItemsState → Type 0
 AreListsOf lists page items =
     (id : ℕ) → list_under lists id ≡ (if makes_context page id then Some (map (numbered items) (of_node entries page id)) else None)
+
+-- the entry stands in the list of a real stacking context of the page, as its entry number k
+pub record IsListedAt (page : Contents) (entry : ContextEntry) (context k : ℕ) : Type 0 where
+  pub is_context : IsTrue (makes_context page context)
+  pub stands : slice_get (of_node entries page context) k ≡ Some entry

@@ -10,9 +10,9 @@ ghost use Rattle.paint_order.specs.Order.{flattened, NestWithin};
 ghost use Rattle.stacking.specs.Counting.{AllItemsArePainted, EachItemIsPaintedOnce};
 ghost use Rattle.box_tree.specs.Frame.{edited_node, IsFaultless};
 ghost use Rattle.stacking.specs.Frame.{is_next_to};
-ghost use Rattle.stacking.specs.Lists.{number_of, AreListsOf};
+ghost use Rattle.stacking.specs.Lists.{number_of, AreListsOf, IsListedAt};
 ghost use Rattle.stacking.specs.OnPage.{of_node};
-ghost use Rattle.stacking.specs.Painting.{entries, layer};
+ghost use Rattle.stacking.specs.Painting.{ContextEntry, entries, layer};
 ghost use Rattle.stacking.specs.Laws.{FlatIsInParts, LinesAreInOrder, LayerIsInParts};
 
 /// A node that is painted as one gives its head, the boxes of the blocks in it, the floats in it, each painted as one, its
@@ -60,4 +60,11 @@ pub fn lists_nest()
 /// items of its layer.
 pub fn lists_flatten_to_the_layer()
     ensures { (page : Contents) (items : ItemsState) (lists : Lists) (id : ℕ) → IsValid page → AreListsOf lists page items → IsTrue (makes_context page id) → flattened 256 lists id ≡ map (number_of items) (of_node layer page id) }
+{}
+
+/// In the lists of the real stacking contexts of a valid page no entry stands twice: not in two lists, and not at two places
+/// of one.
+pub fn each_entry_stands_once()
+    ensures in_one_list { (page : Contents) (entry : ContextEntry) (context other j k : ℕ) → IsValid page → IsListedAt page entry context j → IsListedAt page entry other k → context ≡ other }
+    ensures at_one_place { (page : Contents) (entry : ContextEntry) (context other j k : ℕ) → IsValid page → IsListedAt page entry context j → IsListedAt page entry other k → j ≡ k }
 {}
