@@ -20,3 +20,4 @@ pub mod MemberLemmas
 pub mod NestLemmas
 pub mod WeightLemmas
 pub mod EntryLemmas
+pub mod StandLemmas

@@ -3,16 +3,17 @@ ghost use Rattle.std.specs.Prelude.{◌≡◌, ℕ, map, Some, None, IsTrue, IsF
 ghost use Rattle.box_tree.specs.declared.edit.Edit.{Edit};
 ghost use Rattle.box_tree.specs.Contents.{Contents, IsValid};
 ghost use Rattle.box_tree.specs.Containing.{makes_context};
-ghost use Rattle.box_tree.specs.Edited.{edited};
+ghost use Rattle.box_tree.specs.Edited.{is_root, edited};
 ghost use Rattle.box_tree.specs.Numbers.{ItemsState};
 ghost use Rattle.paint_order.specs.Lists.{Lists};
 ghost use Rattle.paint_order.specs.Order.{flattened, NestWithin};
+ghost use Rattle.stacking.specs.Contexts.{context_of};
 ghost use Rattle.stacking.specs.Counting.{AllItemsArePainted, EachItemIsPaintedOnce};
 ghost use Rattle.box_tree.specs.Frame.{edited_node, IsFaultless};
 ghost use Rattle.stacking.specs.Frame.{is_next_to};
 ghost use Rattle.stacking.specs.Lists.{number_of, AreListsOf, IsListedAt};
 ghost use Rattle.stacking.specs.OnPage.{of_node};
-ghost use Rattle.stacking.specs.Painting.{ContextEntry, entries, layer};
+ghost use Rattle.stacking.specs.Painting.{ContextEntry, SubContext, entries, layer};
 ghost use Rattle.stacking.specs.Laws.{FlatIsInParts, LinesAreInOrder, LayerIsInParts};
 
 /// A node that is painted as one gives its head, the boxes of the blocks in it, the floats in it, each painted as one, its
@@ -67,4 +68,12 @@ pub fn lists_flatten_to_the_layer()
 pub fn each_entry_stands_once()
     ensures in_one_list { (page : Contents) (entry : ContextEntry) (context other j k : ℕ) → IsValid page → IsListedAt page entry context j → IsListedAt page entry other k → context ≡ other }
     ensures at_one_place { (page : Contents) (entry : ContextEntry) (context other j k : ℕ) → IsValid page → IsListedAt page entry context j → IsListedAt page entry other k → j ≡ k }
+{}
+
+/// Each real stacking context of a valid page but the root stands in the list of the nearest one above it; and what stands as
+/// a stacking context in a list is one of the page, and has that of the list as the nearest above it (CSS 2.2, 9.9.1).
+pub fn contexts_stand_in_lists()
+    ensures all_stand { (page : Contents) (id : ℕ) → IsValid page → IsTrue (makes_context page id) → IsFalse (is_root page id) → (k : ℕ) × IsListedAt page (SubContext id) (context_of page id) k }
+    ensures all_are_real { (page : Contents) (id context k : ℕ) → IsValid page → IsListedAt page (SubContext id) context k → IsTrue (makes_context page id) }
+    ensures all_are_nearest { (page : Contents) (id context k : ℕ) → IsValid page → IsListedAt page (SubContext id) context k → context_of page id ≡ context }
 {}
