@@ -3,3 +3,7 @@ pub mod RootLemmas
 pub mod OnceLemmas
 pub mod AdmissionLemmas
 pub mod InsideLemmas
+pub mod HullLemmas
+pub mod DenominatorLemmas
+pub mod LocalLemmas
+pub mod NearLemmas

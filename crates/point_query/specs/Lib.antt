@@ -2,3 +2,4 @@ pub mod ImageMaps
 pub mod Outlines
 pub mod Chain
 pub mod Elements
+pub mod Near

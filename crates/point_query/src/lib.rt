@@ -2,16 +2,18 @@
 //!
 //! It promises that the answers to `hit` and `top` are those of the definitions in `specs/Elements.antt`, which compute
 //! them from the root of the page as it stands, and that `chain` answers the definition of `specs/Chain.antt`. Local points,
-//! inherited values and clips are read from the engine's table of spaces. It stands on `tree_edits` for the engine with its
-//! page and its table, on `stacking` for the painting order, on `scroll_clip` and `corner_shapes` for the curves of boxes and
-//! for clips, on `svg_shapes` for the outlines of shapes, on `spaces` for local points, on `box_tree` for the page and on
-//! `fractions` for the counter of steps.
+//! inherited values and clips are read from the engine's table of spaces. `laws` says that what is admitted at a point is near
+//! it by the definitions of `specs/Near.antt`, so that no other item needs to be asked. It stands on `tree_edits` for the
+//! engine with its page and its table, on `stacking` for the painting order, on `scroll_clip` and `corner_shapes` for the
+//! curves of boxes and for clips, on `svg_shapes` for the outlines of shapes, on `spaces` for local points, on `box_tree` for
+//! the page, on `affine` and `spatial_index` for bounds and their cells, and on `fractions` for the counter of steps.
 #![tactic(auto)]
 
 mod admission;
 mod areas;
 mod chains;
 mod elements;
+pub mod laws;
 mod outlines;
 
 pub use chains::chain;
