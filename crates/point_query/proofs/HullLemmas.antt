@@ -34,20 +34,21 @@ lt-cancel j l w positive h = by_lt_z j l (λ lt. lt) (λ le. absurd (omega (arit
 times_one : (z : ℤ) → z *ℤ pos 1 ≡ z
 times_one z = omega (arith, ints)
 
--- a fraction whose floor in fine units lies between whole units lies between them, or at the second
-module _ (n w l r : ℤ) (positive : pos 0 <ℤ w) where
+-- a fraction whose floor in fine units isn't before a whole unit isn't before it, and one whose floor is before a whole unit is
+-- before it or at it
+module _ (n w : ℤ) (positive : pos 0 <ℤ w) where
   floor-is : IsFloor (pos 64 *ℤ n) w (floor_of (pos 64 *ℤ n) w)
   floor-is = IsFloor-floor_of (pos 64 *ℤ n) w (λ zero'. absurd (omega (arith, ints, zero', positive)))
 
-  at_left : (pos 64 *ℤ l) ≤ℤ floor_of (pos 64 *ℤ n) w → (l *ℤ w) ≤ℤ n
-  at_left h =
+  at_left : (l : ℤ) → (pos 64 *ℤ l) ≤ℤ floor_of (pos 64 *ℤ n) w → (l *ℤ w) ≤ℤ n
+  at_left l h =
       let up = le-mul (pos 64 *ℤ l) (floor_of (pos 64 *ℤ n) w) w (at_least_zero w positive) h in
       let most = floor-is.at_most positive in
       let split = mul_assoc (pos 64) l w in
       omega (arith, ints)
 
-  at_right : floor_of (pos 64 *ℤ n) w <ℤ (pos 64 *ℤ r) → n ≤ℤ (r *ℤ w)
-  at_right h =
+  at_right : (r : ℤ) → floor_of (pos 64 *ℤ n) w <ℤ (pos 64 *ℤ r) → n ≤ℤ (r *ℤ w)
+  at_right r h =
       let up = le-mul (floor_of (pos 64 *ℤ n) w +ℤ pos 1) (pos 64 *ℤ r) w (at_least_zero w positive) (omega (arith, ints)) in
       let next = floor-is.next_above positive in
       let split = mul_assoc (pos 64) r w in
@@ -73,10 +74,10 @@ module _ (m : Parts) (r : Rect) (x y : ℤ) (denominator : pos 0 <ℤ m.q) where
       let some : pos 0 <ℤ w = mul-positive m.q p.w denominator positive in
       let inside : IsInClosed r p = record {
         positive = positive;
-        from_left = at_left p.x p.w r.l r.r positive held.left;
-        to_right = at_right p.x p.w r.l r.r positive held.right;
-        from_top = at_left p.y p.w r.t r.b positive held.top;
-        to_bottom = at_right p.y p.w r.t r.b positive held.bottom;
+        from_left = at_left p.x p.w positive r.l held.left;
+        to_right = at_right p.x p.w positive r.r held.right;
+        from_top = at_left p.y p.w positive r.t held.top;
+        to_bottom = at_right p.y p.w positive r.b held.bottom;
       } in
       let across : r.l ≤ℤ r.r = le-cancel r.l r.r p.w positive (omega (arith, ints, inside.from_left, inside.to_right)) in
       let down : r.t ≤ℤ r.b = le-cancel r.t r.b p.w positive (omega (arith, ints, inside.from_top, inside.to_bottom)) in
@@ -105,11 +106,12 @@ module _ (m : Parts) (r : Rect) (x y : ℤ) (denominator : pos 0 <ℤ m.q) where
       (record { x = negated-row m.a m.c m.e m.q px py d x same.x; y = negated-row m.b m.d m.f m.q px py d y same.y })
       (rw (mul-neg (pos 64) px, mul-neg (pos 64) py) (subst (λ (a : ℤ × ℤ). HoldsFine r a.0 a.1) at_is held))
 
+  -- the hull of a rectangle holds each point whose local point the rectangle holds
   pub holds-hull : (at : ℤ × ℤ) → local_point m x y ≡ Some at → HoldsFine r at.0 at.1 → Holds (hull_of m r) x y
   unfolding local_point
   holds-hull at is held = holds-over (preimage m x y).x (preimage m x y).y (preimage m x y).w (IsSamePoint-preimage m x y) at is held
 
--- what two rectangles hold, the part that they share holds; it is none of four zeros then
+-- what is so of each rectangle that holds a point, and begins in the second, is so of the part that two share that hold it
 pub holds-shared : (h k : Rect) (x y : ℤ) → Holds h x y → Holds k x y → (P : Rect → Type 0) →
     ((s : Rect) → Holds s x y → k.l ≤ℤ s.l → k.t ≤ℤ s.t → P s) → P (shared_part h k)
 holds-shared h k x y in_h in_k P then =
