@@ -38,7 +38,7 @@ module _ (w : ContextEntry → ℕ) where
       ∙ ap (λ b. (if b then total w (entries p) else 0) + (all_lists w (n ∷ above) below + all_lists w above others)) real
 
   -- the lists of one and of two of them weigh no more
-  one-list : (f : Forest) (above : List Label) (id : ℕ) (p : Placed) → placed_in above f id ≡ Some p → at is_real_context p ≡ true → total w (entries p) ≤ all_lists w above f
+  pub one-list : (f : Forest) (above : List Label) (id : ℕ) (p : Placed) → placed_in above f id ≡ Some p → at is_real_context p ≡ true → total w (entries p) ≤ all_lists w above f
   one-list End above id p found real = absurd cc
   one-list (Grow n below others) above id p found real = elim (found_in n below others above id p found) [
     | Head here is ↦ omega (arith, head-list n above below others p is real)
@@ -121,7 +121,7 @@ item_weight test (OneItem item) = if test item then 1 else 0
 item_weight test (SubContext id) = 0
 
 -- how many are in the layer of a node that is a stacking context
-abbrev layer_weight : (Item → Bool) → Placed → ℕ
+abbrev pub layer_weight : (Item → Bool) → Placed → ℕ
 layer_weight test m = if at is_real_context m then count test (layer m) else 0
 
 module _ (test : Item → Bool) where
@@ -167,13 +167,13 @@ module _ (test : Item → Bool) where
       by_test false list given all all_is given_is deeper beside = omega (arith, all_is, given_is, deeper, beside)
 
   -- and those of all lists of a page are those of the layer of its root
-  root-lists : (f : Forest) → length (roots_of f) ≤ 1 → all_lists (item_weight test) [] f ≡ count test (root_layer f)
+  pub root-lists : (f : Forest) → length (roots_of f) ≤ 1 → all_lists (item_weight test) [] f ≡ count test (root_layer f)
   root-lists End one = refl
   root-lists (Grow n below End) one = omega (arith, item-list (record { label = n; above = []; below = below }), item-lists (n ∷ []) below)
   root-lists (Grow n below (Grow m deeper others)) one = absurd (omega arith)
 
 -- the weight of an entry: it weighs 1 itself, and any other nothing
-abbrev weight : ContextEntry → ContextEntry → ℕ
+abbrev pub weight : ContextEntry → ContextEntry → ℕ
 weight (OneItem item) = item_weight (is_item item)
 weight (SubContext id) = sub_weight id
 
@@ -185,7 +185,7 @@ part_itself (Box place) = itself place
 part_itself Content = refl
 part_itself Outline = refl
 
-weight-itself : (entry : ContextEntry) → weight entry entry ≡ 1
+pub weight-itself : (entry : ContextEntry) → weight entry entry ≡ 1
 weight-itself (OneItem item) = rw (itself item.node, part_itself item.part) refl
 weight-itself (SubContext id) = rw (itself id) refl
 

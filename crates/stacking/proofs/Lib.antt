@@ -21,3 +21,4 @@ pub mod NestLemmas
 pub mod WeightLemmas
 pub mod EntryLemmas
 pub mod StandLemmas
+pub mod WholeLemmas

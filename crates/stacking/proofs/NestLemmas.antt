@@ -82,7 +82,7 @@ numbered-sub s (OneItem item ∷ es) (suc k) sub is = numbered-sub s es k sub is
 numbered-sub s (SubContext id ∷ es) (suc k) sub is = numbered-sub s es k sub is
 
 module _ (page : Contents) (valid : IsValid page) (items : ItemsState) (lists : Lists) (are : AreListsOf lists page items) where
-  list-there : (id : ℕ) (p : Placed) → placed_of page id ≡ Some p → at is_real_context p ≡ true → entries_of lists id ≡ map (numbered items) (entries p)
+  pub list-there : (id : ℕ) (p : Placed) → placed_of page id ≡ Some p → at is_real_context p ≡ true → entries_of lists id ≡ map (numbered items) (entries p)
   list-there id p found real =
       ap (λ (o : Option (List Entry)). unwrap_or o []) (are id)
       ∙ ap (λ (o : Option Placed). unwrap_or (if option_map_or (λ q. is_real_context (parent_of q.above) q.label) o false then Some (map (numbered items) (option_map_or entries o [])) else None) []) found

@@ -4,14 +4,14 @@ ghost use Rattle.box_tree.specs.declared.edit.Edit.{Edit};
 ghost use Rattle.box_tree.specs.Contents.{Contents, IsValid};
 ghost use Rattle.box_tree.specs.Containing.{makes_context};
 ghost use Rattle.box_tree.specs.Edited.{is_root, edited};
-ghost use Rattle.box_tree.specs.Numbers.{ItemsState};
-ghost use Rattle.paint_order.specs.Lists.{Lists};
-ghost use Rattle.paint_order.specs.Order.{flattened, NestWithin};
+ghost use Rattle.box_tree.specs.Numbers.{ItemsState, IsNumberedPage};
+ghost use Rattle.paint_order.specs.Lists.{Lists, AreDistinct, StandNowhereElse};
+ghost use Rattle.paint_order.specs.Order.{flattened, IsWhole, NestWithin};
 ghost use Rattle.stacking.specs.Contexts.{context_of};
 ghost use Rattle.stacking.specs.Counting.{AllItemsArePainted, EachItemIsPaintedOnce};
 ghost use Rattle.box_tree.specs.Frame.{edited_node, IsFaultless};
 ghost use Rattle.stacking.specs.Frame.{is_next_to};
-ghost use Rattle.stacking.specs.Lists.{number_of, AreListsOf, IsListedAt};
+ghost use Rattle.stacking.specs.Lists.{number_of, AreListsOf, IsListedAt, numbered, HasOnlyListsOf};
 ghost use Rattle.stacking.specs.OnPage.{of_node};
 ghost use Rattle.stacking.specs.Painting.{ContextEntry, SubContext, entries, layer};
 ghost use Rattle.stacking.specs.Laws.{FlatIsInParts, LinesAreInOrder, LayerIsInParts};
@@ -76,4 +76,17 @@ pub fn contexts_stand_in_lists()
     ensures all_stand { (page : Contents) (id : ℕ) → IsValid page → IsTrue (makes_context page id) → IsFalse (is_root page id) → (k : ℕ) × IsListedAt page (SubContext id) (context_of page id) k }
     ensures all_are_real { (page : Contents) (id context k : ℕ) → IsValid page → IsListedAt page (SubContext id) context k → IsTrue (makes_context page id) }
     ensures all_are_nearest { (page : Contents) (id context k : ℕ) → IsValid page → IsListedAt page (SubContext id) context k → context_of page id ≡ context }
+{}
+
+/// With the list of each real stacking context of a valid page in a table, each list but that of the root stands in a list.
+pub fn lists_are_whole()
+    ensures { (page : Contents) (items : ItemsState) (lists : Lists) (root : ℕ) → IsValid page → AreListsOf lists page items → IsTrue (is_root page root) → IsWhole lists root }
+{}
+
+/// The list of a real stacking context of a valid page with numbered items has no entry twice, and none that stands under
+/// another number in a table that has lists of the page alone.
+pub fn no_number_stands_twice()
+    ensures distinct { (page : Contents) (items : ItemsState) (context : ℕ) → IsValid page → IsNumberedPage page items → IsTrue (makes_context page context) → AreDistinct (map (numbered items) (of_node entries page context)) }
+    ensures nowhere_else { (page : Contents) (items : ItemsState) (lists : Lists) (context : ℕ) → IsValid page → IsNumberedPage page items → IsTrue (makes_context page context) → HasOnlyListsOf lists page items →
+        StandNowhereElse lists context (map (numbered items) (of_node entries page context)) }
 {}
