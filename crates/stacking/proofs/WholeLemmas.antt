@@ -1,24 +1,26 @@
 -- What a forest of lists asks of the lists of a page: each but that of the root stands in one, and no number stands twice.
-use Rattle.std.proofs.Common.{◌≡◌, ◌≢◌, ◌⊎◌, ℕ, suc, ◌<◌, ◌≤◌, ◌==◌, List, [], ◌∷◌, ◌++◌, length, map, Option, Some, None, IsSome, is_some, slice_get, Bool, true, false, refl, sym, ap, ◌∙◌, subst, inl, inr, arith}
-use Rattle.std.specs.Prelude.{if◌then◌else◌, ◌&&◌, Contains}
+use Rattle.std.proofs.Common.{◌≡◌, ◌≢◌, ◌⊎◌, ℕ, suc, ◌<◌, ◌≤◌, ◌==◌, List, [], ◌∷◌, ◌++◌, length, map, Option, Some, None, IsSome, is_some, slice_get, Bool, true, false, refl, sym, ap, ◌∙◌, subst, inl, inr, arith, get_or}
+use Rattle.std.specs.Prelude.{if◌then◌else◌, ◌&&◌, Contains, All}
 use Rattle.std.specs.List.{list_any}
-use Rattle.std.specs.Option.{option_map}
+use Rattle.std.specs.Option.{option_map, option_map_or}
 use Rattle.std.proofs.lemmas.Bool.{cases_lt, false≢true}
 use Rattle.std.proofs.lemmas.Bool.Decides.{nat_tests}
-use Rattle.std.proofs.lemmas.Option.{none-some, same_Some, slice_get-map}
+use Rattle.std.proofs.lemmas.Option.{none-some, same_Some, slice_get-map, slice_get-get_or}
 use Rattle.box_tree.specs.declared.item.Item.{Item}
 use Rattle.box_tree.specs.declared.item.Part.{Part}
 use Rattle.box_tree.specs.declared.item.Part.TheVariants.{Box, Content, Outline}
 use Rattle.box_tree.specs.Forest.{Label, Forest, End, Grow, Placed, roots_of}
-use Rattle.box_tree.specs.Contents.{Contents, node_at, placed_of, IsValid}
-use Rattle.box_tree.specs.Containing.{makes_context}
+use Rattle.box_tree.specs.Contents.{Contents, node_at, placed_of, IsValid, IsGiven}
+use Rattle.box_tree.specs.Containing.{parent_of, makes_context}
+use Rattle.box_tree.specs.Used.{is_real_context}
 use Rattle.box_tree.specs.Edited.{is_root}
 use Rattle.box_tree.specs.Items.{items_of, items_at, node_items}
 use Rattle.box_tree.specs.Numbers.{ItemsState, Names, IsItem, IsNumberedPage}
 use Rattle.box_tree.proofs.NumberedPages.{are_placed}
-use Rattle.box_tree.proofs.PlacedLemmas.{AreAtPlaces, page-at_places}
+use Rattle.box_tree.proofs.PlacedLemmas.{AreAtPlaces, page-at_places, id-placed_in}
+use Rattle.box_tree.proofs.MoveLemmas.{each-placed}
 use Rattle.paint_order.specs.declared.entry.Entry.{Entry}
-use Rattle.paint_order.specs.Lists.{Lists, list_under, entries_of, StandsAt, AreDistinct, StandNowhereElse}
+use Rattle.paint_order.specs.Lists.{Lists, list_under, entries_of, StandsAt, AreDistinct, StandNowhereElse, IsInRoom}
 use Rattle.paint_order.specs.Order.{IsWhole}
 use Rattle.stacking.specs.Painting.{own, drawn, ContextEntry, OneItem, SubContext, entries}
 use Rattle.stacking.specs.OnPage.{of_node}
@@ -29,7 +31,7 @@ use Rattle.stacking.proofs.CountLemmas.{count-append, all_items_are_painted}
 use Rattle.stacking.proofs.WeightLemmas.{weighs}
 use Rattle.stacking.proofs.EntryLemmas.{item_weight, weight-itself, one-list, root-lists, list_in, same_context, same_place}
 use Rattle.stacking.proofs.NestLemmas.{list-there}
-use Rattle.stacking.proofs.StandLemmas.{stands_above}
+use Rattle.stacking.proofs.StandLemmas.{stands_above, sub-real}
 
 -- an item that is counted among some stands there
 part_true : (part other : Part) → is_part part other ≡ true → other ≡ part
@@ -150,6 +152,25 @@ module _ (page : Contents) (valid : IsValid page) (items : ItemsState) (are_numb
           let is = kept_at kept context j real at in
           let is' = kept_at kept l k is_list.0 (sym (ap (λ (es : List Entry). slice_get es k) is_list.1) ∙ at') in
           sym (same_context page valid is.listed context l j k is.at (kept-same kept context l j k is is'))
+
+  -- the numbers are in the room that a page can want
+  in_room : (listed : ContextEntry) (context k : ℕ) → IsListedAt page listed context k → IsInRoom 655360 page.next (numbered items listed)
+  in_room (OneItem item) context k is =
+      let has = are_numbered.each item (listed-item page valid item context k is) in
+      subst (λ (n : ℕ). n < 655360) (sym has.1.number_is) (are_numbered.below has.0 item has.1)
+  in_room (SubContext id) context k is = by_place (placed_of page id) refl (sub-real page valid id context k is)
+    where
+      by_place : (o : Option Placed) → placed_of page id ≡ o → option_map_or (λ q. is_real_context (parent_of q.above) q.label) o false ≡ true → id < page.next
+      by_place None found real = absurd (false≢true real)
+      by_place (Some q) found real =
+          let given = (each-placed (IsGiven page.next) page.tree [] id q valid.given found).0 in
+          subst (λ (i : ℕ). i < page.next) (id-placed_in page.tree [] id q found) given.below_next
+
+  pub all-in_room : (context : ℕ) → makes_context page context ≡ true → All (IsInRoom 655360 page.next) (map (numbered items) (of_node entries page context))
+  all-in_room context real = λ k none within.
+      let kept = map (numbered items) (of_node entries page context) in
+      let is = kept_at (get_or kept k none) context k real (slice_get-get_or kept k none within) in
+      subst (IsInRoom 655360 page.next) is.number_is (in_room is.listed context k is.at)
 
 -- a table of all lists of a page
 module _ (page : Contents) (valid : IsValid page) (items : ItemsState) (lists : Lists) (are : AreListsOf lists page items) where

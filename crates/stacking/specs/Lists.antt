@@ -1,5 +1,5 @@
 -- The list of a stacking context as it is kept: each item by its number.
-use Rattle.std.specs.Prelude.{◌≡◌, ◌⊎◌, ℕ, [], map, Some, None, IsTrue, slice_get, slice_index_or, if◌then◌else◌}
+use Rattle.std.specs.Prelude.{◌≡◌, ◌⊎◌, ℕ, List, [], map, Some, None, IsTrue, slice_get, slice_index_or, if◌then◌else◌}
 use Rattle.box_tree.specs.declared.item.Item.{Item}
 use Rattle.box_tree.specs.Contents.{Contents}
 use Rattle.box_tree.specs.Containing.{makes_context}
@@ -19,16 +19,20 @@ abbrev pub numbered : ItemsState → ContextEntry → Entry
 numbered s (OneItem item) = entry.Item (number_of s item)
 numbered s (SubContext id) = entry.Sub id
 
+-- the list of a stacking context with these numbers of items
+abbrev pub kept_list : ItemsState → Contents → ℕ → List Entry
+kept_list items page context = map (numbered items) (of_node entries page context)
+
 -- the table has the list of each real stacking context of the page under the id of the context, and no other list
 abbrev pub AreListsOf : Lists → Contents → ItemsState → Type 0
 AreListsOf lists page items =
-    (id : ℕ) → list_under lists id ≡ (if makes_context page id then Some (map (numbered items) (of_node entries page id)) else None)
+    (id : ℕ) → list_under lists id ≡ (if makes_context page id then Some (kept_list items page id) else None)
 
 -- the table has lists of the page alone: under each number stand no entries, or those of the list of the real stacking
 -- context of this id
 abbrev pub HasOnlyListsOf : Lists → Contents → ItemsState → Type 0
 HasOnlyListsOf lists page items =
-    (id : ℕ) → (entries_of lists id ≡ []) ⊎ (IsTrue (makes_context page id) × (entries_of lists id ≡ map (numbered items) (of_node entries page id)))
+    (id : ℕ) → (entries_of lists id ≡ []) ⊎ (IsTrue (makes_context page id) × (entries_of lists id ≡ kept_list items page id))
 
 -- the entry stands in the list of a real stacking context of the page, as its entry number k
 pub record IsListedAt (page : Contents) (entry : ContextEntry) (context k : ℕ) : Type 0 where

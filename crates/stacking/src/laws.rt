@@ -1,17 +1,18 @@
 //! The rules of the painting order as sentences, each the contract of a function without a body.
 ghost use Rattle.std.specs.Prelude.{◌≡◌, ℕ, map, Some, None, IsTrue, IsFalse};
+ghost use Rattle.std.specs.List.{All};
 ghost use Rattle.box_tree.specs.declared.edit.Edit.{Edit};
 ghost use Rattle.box_tree.specs.Contents.{Contents, IsValid};
 ghost use Rattle.box_tree.specs.Containing.{makes_context};
 ghost use Rattle.box_tree.specs.Edited.{is_root, edited};
 ghost use Rattle.box_tree.specs.Numbers.{ItemsState, IsNumberedPage};
-ghost use Rattle.paint_order.specs.Lists.{Lists, AreDistinct, StandNowhereElse};
+ghost use Rattle.paint_order.specs.Lists.{Lists, IsInRoom, AreDistinct, StandNowhereElse};
 ghost use Rattle.paint_order.specs.Order.{flattened, IsWhole, NestWithin};
 ghost use Rattle.stacking.specs.Contexts.{context_of};
 ghost use Rattle.stacking.specs.Counting.{AllItemsArePainted, EachItemIsPaintedOnce};
 ghost use Rattle.box_tree.specs.Frame.{edited_node, IsFaultless};
 ghost use Rattle.stacking.specs.Frame.{is_next_to};
-ghost use Rattle.stacking.specs.Lists.{number_of, AreListsOf, IsListedAt, numbered, HasOnlyListsOf};
+ghost use Rattle.stacking.specs.Lists.{number_of, AreListsOf, IsListedAt, numbered, HasOnlyListsOf, kept_list};
 ghost use Rattle.stacking.specs.OnPage.{of_node};
 ghost use Rattle.stacking.specs.Painting.{ContextEntry, SubContext, entries, layer};
 ghost use Rattle.stacking.specs.Laws.{FlatIsInParts, LinesAreInOrder, LayerIsInParts};
@@ -83,10 +84,13 @@ pub fn lists_are_whole()
     ensures { (page : Contents) (items : ItemsState) (lists : Lists) (root : ℕ) → IsValid page → AreListsOf lists page items → IsTrue (is_root page root) → IsWhole lists root }
 {}
 
-/// The list of a real stacking context of a valid page with numbered items has no entry twice, and none that stands under
-/// another number in a table that has lists of the page alone.
-pub fn no_number_stands_twice()
-    ensures distinct { (page : Contents) (items : ItemsState) (context : ℕ) → IsValid page → IsNumberedPage page items → IsTrue (makes_context page context) → AreDistinct (map (numbered items) (of_node entries page context)) }
+/// What a forest of lists asks of a list that is put holds of the list of a real stacking context, where the page is valid and
+/// its items are numbered: no entry comes twice, none stands under another number, if the table has lists of the page alone,
+/// items have numbers below 655,360, and stacking contexts ids below the next id of the page.
+pub fn lists_may_be_put()
+    ensures distinct { (page : Contents) (items : ItemsState) (context : ℕ) → IsValid page → IsNumberedPage page items → IsTrue (makes_context page context) → AreDistinct (kept_list items page context) }
     ensures nowhere_else { (page : Contents) (items : ItemsState) (lists : Lists) (context : ℕ) → IsValid page → IsNumberedPage page items → IsTrue (makes_context page context) → HasOnlyListsOf lists page items →
-        StandNowhereElse lists context (map (numbered items) (of_node entries page context)) }
+        StandNowhereElse lists context (kept_list items page context) }
+    ensures in_room { (page : Contents) (items : ItemsState) (context : ℕ) → IsValid page → IsNumberedPage page items → IsTrue (makes_context page context) →
+        All (IsInRoom 655360 page.next) (kept_list items page context) }
 {}
