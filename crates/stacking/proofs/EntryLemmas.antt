@@ -1,18 +1,16 @@
 -- Each entry stands once in the lists of the stacking contexts of a page. An entry is given a weight of 1, and all others none;
 -- the lists of all stacking contexts weigh together no more than the layer of the root, in which no item stands twice, and no
 -- more than the ids of the page, in which no id stands twice.
-use Rattle.std.proofs.Common.{◌≡◌, ◌≢◌, ℕ, ◌+◌, ◌≤◌, ◌==◌, List, [], ◌∷◌, map, Option, Some, None, slice_get, Bool, true, false, refl, sym, ap, ◌∙◌, subst, inl, inr, arith}
+use Rattle.std.proofs.Common.{◌≡◌, ◌≢◌, ℕ, ◌+◌, ◌≤◌, ◌==◌, List, [], ◌∷◌, map, Some, slice_get, Bool, true, false, refl, sym, ap, ◌∙◌, inl, inr, arith}
 use Rattle.std.specs.Prelude.{if◌then◌else◌, length}
 use Rattle.std.specs.List.{flat_map}
-use Rattle.std.specs.Option.{option_map_or}
-use Rattle.std.proofs.lemmas.Bool.{cases_eq, false≢true}
+use Rattle.std.proofs.lemmas.Bool.{cases_eq}
 use Rattle.std.proofs.lemmas.Bool.Decides.{nat_tests}
 use Rattle.box_tree.specs.declared.item.Item.{Item}
 use Rattle.box_tree.specs.declared.item.Part.{Part}
 use Rattle.box_tree.specs.declared.item.Part.TheVariants.{Box, Content, Outline}
 use Rattle.box_tree.specs.Forest.{Label, Forest, End, Grow, Placed, placed_in, occurrences, roots_of}
 use Rattle.box_tree.specs.Contents.{Contents, placed_of, IsValid}
-use Rattle.box_tree.specs.Containing.{parent_of}
 use Rattle.box_tree.specs.Used.{is_real_context}
 use Rattle.box_tree.proofs.SubtreeLemmas.{Head, Deeper, Beside, found_in}
 use Rattle.stacking.specs.Painting.{at, shares_in, head, body, flat, ContextEntry, OneItem, SubContext, listed_member, entries, painted_member, layer}
@@ -20,6 +18,7 @@ use Rattle.stacking.specs.Counting.{count, is_item, is_part, root_layer}
 use Rattle.stacking.specs.Lists.{IsListedAt}
 use Rattle.stacking.proofs.LevelLemmas.{flat-is}
 use Rattle.stacking.proofs.CountLemmas.{total, count-append, count-layer}
+use Rattle.stacking.proofs.MemberLemmas.{IsContextAt, context_at, of_node-context}
 use Rattle.stacking.proofs.OnceLemmas as once
 use Rattle.stacking.proofs.WeightLemmas.{total-same, total-plus, weighs, one_place, total-list, given_by, given-step}
 
@@ -193,42 +192,36 @@ weight-page : (page : Contents) → IsValid page → (entry : ContextEntry) → 
 weight-page page valid (OneItem item) = omega (arith, root-lists (is_item item) page.tree valid.one_tree, once.each_item_is_painted_once page valid item)
 weight-page page valid (SubContext id) = omega (arith, sub-lists id [] page.tree, valid.distinct id)
 
--- a stacking context in whose list an entry stands
-pub record IsListIn (page : Contents) (entry : ContextEntry) (context k : ℕ) : Type 0 where
-  pub place : Placed
-  pub found : placed_of page context ≡ Some place
-  pub real : at is_real_context place ≡ true
-  pub at_place : slice_get (entries place) k ≡ Some entry
+-- the place of a stacking context in whose list an entry stands
+module _ (page : Contents) (entry : ContextEntry) (context k : ℕ) (is : IsListedAt page entry context k) where
+  abbrev pub list_at : IsContextAt page context
+  list_at = context_at page context is.is_context
 
-pub list_in : (page : Contents) (entry : ContextEntry) (context k : ℕ) → IsListedAt page entry context k → IsListIn page entry context k
-list_in page entry context k is = by_place (placed_of page context) refl is.is_context is.stands
-  where
-    by_place : (o : Option Placed) → placed_of page context ≡ o → option_map_or (λ q. is_real_context (parent_of q.above) q.label) o false ≡ true → slice_get (option_map_or entries o []) k ≡ Some entry → IsListIn page entry context k
-    by_place None found real stands = absurd (false≢true real)
-    by_place (Some p) found real stands = record { place = p; found = found; real = real; at_place = stands }
+  pub at_place : slice_get (entries list_at.place) k ≡ Some entry
+  at_place = ap (λ es. slice_get es k) (sym (of_node-context page context list_at entries)) ∙ is.stands
 
 module _ (page : Contents) (valid : IsValid page) (entry : ContextEntry) (c d j k : ℕ) (here : IsListedAt page entry c j) (there : IsListedAt page entry d k) where
   pub same_context : c ≡ d
   same_context =
-      let p = list_in page entry c j here in
-      let q = list_in page entry d k there in
+      let p = list_at page entry c j here in
+      let q = list_at page entry d k there in
       elim (cases_eq c d) [
         | inl same ↦ same
         | inr apart ↦ absurd (omega (
           arith,
           two-lists (weight entry) page.tree [] c d p.place q.place p.found q.found p.real q.real apart,
           weight-page page valid entry,
-          weighs (weight entry) (entries p.place) j entry p.at_place,
-          weighs (weight entry) (entries q.place) k entry q.at_place,
+          weighs (weight entry) (entries p.place) j entry (at_place page entry c j here),
+          weighs (weight entry) (entries q.place) k entry (at_place page entry d k there),
           weight-itself entry,
         ))
       ]
 
   pub same_place : j ≡ k
   same_place =
-      let p = list_in page entry c j here in
-      let q = list_in page entry c k (subst (λ (i : ℕ). IsListedAt page entry i k) (sym same_context) there) in
-      let same : Some p.place ≡ Some q.place = sym p.found ∙ q.found in
-      let place_is : p.place ≡ q.place = cc in
-      one_place (weight entry) (entries p.place) j k entry (omega (arith, one-list (weight entry) page.tree [] c p.place p.found p.real, weight-page page valid entry)) (weight-itself entry) p.at_place
-      (ap (λ (r : Placed). slice_get (entries r) k) place_is ∙ q.at_place)
+      let p = list_at page entry c j here in
+      let q = list_at page entry d k there in
+      let same : Some q.place ≡ Some p.place = sym q.found ∙ ap (placed_of page) (sym same_context) ∙ p.found in
+      let place_is : q.place ≡ p.place = cc in
+      one_place (weight entry) (entries p.place) j k entry (omega (arith, one-list (weight entry) page.tree [] c p.place p.found p.real, weight-page page valid entry)) (weight-itself entry) (at_place page entry c j here)
+      (ap (λ (r : Placed). slice_get (entries r) k) (sym place_is) ∙ at_place page entry d k there)

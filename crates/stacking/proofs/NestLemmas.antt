@@ -1,15 +1,13 @@
 -- The lists of all stacking contexts of a page: how deep they nest, and what they make flattened.
 use Rattle.std.proofs.Common.{◌≡◌, ℕ, zero, suc, ◌<◌, List, [], ◌∷◌, ◌++◌, map, Option, Some, None, slice_get, unwrap_or, Bool, true, false, refl, sym, ap, ◌∙◌, append_assoc, arith}
-use Rattle.std.proofs.lemmas.Bool.{false≢true}
 use Rattle.std.proofs.lemmas.List.{append-nil, map-append}
 use Rattle.std.proofs.lemmas.Option.{none-some}
 use Rattle.std.specs.Prelude.{if◌then◌else◌, not, ◌&&◌, int_lt, pos}
 use Rattle.std.specs.List.{filter, flat_map, AllByRecursion}
-use Rattle.std.specs.Option.{option_map_or}
 use Rattle.box_tree.specs.declared.item.Item.{Item}
 use Rattle.box_tree.specs.Forest.{Placed, height_of}
-use Rattle.box_tree.specs.Contents.{Contents, placed_of, IsValid}
-use Rattle.box_tree.specs.Containing.{parent_of, makes_context}
+use Rattle.box_tree.specs.Contents.{Contents, IsValid}
+use Rattle.box_tree.specs.Containing.{makes_context}
 use Rattle.box_tree.specs.Numbers.{ItemsState}
 use Rattle.box_tree.specs.Used.{is_real_context}
 use Rattle.box_tree.proofs.SubtreeLemmas.{height-placed_in}
@@ -19,10 +17,10 @@ use Rattle.paint_order.specs.Lists.{Lists, entries_of}
 use Rattle.paint_order.specs.Order.{items_of, flattened, NestsWithin, NestWithin}
 use Rattle.stacking.specs.Painting.{at, head, body, flat, level_of, context_members, context_list, ContextEntry, OneItem, SubContext, listed_member, entries, painted_member, layer}
 use Rattle.stacking.specs.OnPage.{of_node}
-use Rattle.stacking.specs.Lists.{number_of, numbered, AreListsOf}
+use Rattle.stacking.specs.Lists.{number_of, numbered, kept_list, AreListsOf}
 use Rattle.stacking.proofs.LevelLemmas.{layer-is}
 use Rattle.stacking.proofs.ListLemmas.{each-filter, each-weaken, flat_map-same, map-flat_map}
-use Rattle.stacking.proofs.MemberLemmas.{IsWithin, are-within, listed-at}
+use Rattle.stacking.proofs.MemberLemmas.{IsContextAt, context_at, makes-context, of_node-context, IsWithin, are-within, listed-at}
 
 -- the items of a list, given those of each list in it
 module _ (s : ItemsState) (inner : ℕ → List ℕ) where
@@ -82,52 +80,48 @@ numbered-sub s (OneItem item ∷ es) (suc k) sub is = numbered-sub s es k sub is
 numbered-sub s (SubContext id ∷ es) (suc k) sub is = numbered-sub s es k sub is
 
 module _ (page : Contents) (valid : IsValid page) (items : ItemsState) (lists : Lists) (are : AreListsOf lists page items) where
-  pub list-there : (id : ℕ) (p : Placed) → placed_of page id ≡ Some p → at is_real_context p ≡ true → entries_of lists id ≡ map (numbered items) (entries p)
-  list-there id p found real =
+  pub list-there : (id : ℕ) (c : IsContextAt page id) → entries_of lists id ≡ map (numbered items) (entries c.place)
+  list-there id c =
       ap (λ (o : Option (List Entry)). unwrap_or o []) (are id)
-      ∙ ap (λ (o : Option Placed). unwrap_or (if option_map_or (λ q. is_real_context (parent_of q.above) q.label) o false then Some (map (numbered items) (option_map_or entries o [])) else None) []) found
-      ∙ ap (λ b. unwrap_or (if b then Some (map (numbered items) (entries p)) else None) []) real
+      ∙ ap (λ b. unwrap_or (if b then Some (kept_list items page id) else None) []) (makes-context page id c)
+      ∙ ap (map (numbered items)) (of_node-context page id c entries)
 
   -- the list of a stacking context with fewer levels below it, flattened
-  flattens : (levels id : ℕ) (p : Placed) → placed_of page id ≡ Some p → at is_real_context p ≡ true → height_of p.below < levels → flattened levels lists id ≡ map (number_of items) (layer p)
+  flattens : (levels id : ℕ) (c : IsContextAt page id) → height_of c.place.below < levels → flattened levels lists id ≡ map (number_of items) (layer c.place)
   unfolding flattened
-  flattens zero id p found real few = absurd (omega arith)
-  flattens (suc levels) id p found real few =
-      ap (λ es. flat_map (items_of (flattened levels lists)) es) (list-there id p found real)
-      ∙ items_in-list items (flattened levels lists) p
-      (each-weaken (IsWithin page (height_of p.below) p.label.id) (GivesLayer items (flattened levels lists)) (context_members p) (λ m within real'. flattens levels m.label.id m within.stands real' (omega (arith, within.lower, few))) (are-within page id p valid found real))
-      ∙ sym (ap (map (number_of items)) (layer-is p))
+  flattens zero id c few = absurd (omega arith)
+  flattens (suc levels) id c few =
+      ap (λ es. flat_map (items_of (flattened levels lists)) es) (list-there id c)
+      ∙ items_in-list items (flattened levels lists) c.place
+      (each-weaken (IsWithin page (height_of c.place.below) c.place.label.id) (GivesLayer items (flattened levels lists)) (context_members c.place)
+      (λ m within real. flattens levels m.label.id (record { place = m; found = within.stands; real = real }) (omega (arith, within.lower, few))) (are-within page id c valid))
+      ∙ sym (ap (map (number_of items)) (layer-is c.place))
 
   -- the list of a stacking context with fewer levels below it nests within so many
-  nests : (levels id : ℕ) (p : Placed) → placed_of page id ≡ Some p → at is_real_context p ≡ true → height_of p.below < levels → NestsWithin levels lists id
+  nests : (levels id : ℕ) (c : IsContextAt page id) → height_of c.place.below < levels → NestsWithin levels lists id
   unfolding NestsWithin
-  nests zero id p found real few = absurd (omega arith)
-  nests (suc levels) id p found real few = λ k sub stands.
-      let listed = listed-at page id p valid found real k sub (numbered-sub items (entries p) k sub (sym (ap (λ es. slice_get es k) (list-there id p found real)) ∙ stands)) in
-      nests levels sub listed.place (ap (placed_of page) (sym listed.id_is) ∙ listed.within.stands) listed.real (omega (arith, listed.within.lower, few))
+  nests zero id c few = absurd (omega arith)
+  nests (suc levels) id c few = λ k sub stands.
+      let listed = listed-at page id c valid k sub (numbered-sub items (entries c.place) k sub (sym (ap (λ es. slice_get es k) (list-there id c)) ∙ stands)) in
+      nests levels sub listed.at_place (omega (arith, listed.within.lower, few))
 
   -- so does a number without a list
   nests-nothing : (levels id : ℕ) → makes_context page id ≡ false → NestsWithin (suc levels) lists id
   unfolding NestsWithin
-  nests-nothing levels id none = λ k sub stands. absurd (none-some (entry.Sub sub) (sym (ap (λ (o : Option (List Entry)). slice_get (unwrap_or o []) k) (are id ∙ ap (λ b. if b then Some (map (numbered items) (of_node entries page id)) else None) none)) ∙ stands))
+  nests-nothing levels id none = λ k sub stands.
+      absurd (none-some (entry.Sub sub) (sym (ap (λ (o : Option (List Entry)). slice_get (unwrap_or o []) k) (are id ∙ ap (λ b. if b then Some (kept_list items page id) else None) none)) ∙ stands))
 
-  few_levels : (id : ℕ) (p : Placed) → placed_of page id ≡ Some p → height_of p.below < 256
-  few_levels id p found = omega (arith, height-placed_in page.tree [] id p found, valid.depth)
+  few_levels : (id : ℕ) (c : IsContextAt page id) → height_of c.place.below < 256
+  few_levels id c = omega (arith, height-placed_in page.tree [] id c.place c.found, valid.depth)
 
   pub lists-nest : NestWithin 256 lists
-  lists-nest id = by_place (placed_of page id) refl
+  lists-nest id = by_test (makes_context page id) refl
     where
-      by_test : (p : Placed) → placed_of page id ≡ Some p → (b : Bool) → at is_real_context p ≡ b → NestsWithin 256 lists id
-      by_test p found true is = nests 256 id p found is (few_levels id p found)
-      by_test p found false is = nests-nothing 255 id (ap (λ (o : Option Placed). option_map_or (λ q. is_real_context (parent_of q.above) q.label) o false) found ∙ is)
-
-      by_place : (o : Option Placed) → placed_of page id ≡ o → NestsWithin 256 lists id
-      by_place None is = nests-nothing 255 id (ap (λ (o : Option Placed). option_map_or (λ q. is_real_context (parent_of q.above) q.label) o false) is)
-      by_place (Some p) is = by_test p is (at is_real_context p) refl
+      by_test : (b : Bool) → makes_context page id ≡ b → NestsWithin 256 lists id
+      by_test true is = let c = context_at page id is in nests 256 id c (few_levels id c)
+      by_test false is = nests-nothing 255 id is
 
   pub lists-flatten : (id : ℕ) → makes_context page id ≡ true → flattened 256 lists id ≡ map (number_of items) (of_node layer page id)
-  lists-flatten id real = by_place (placed_of page id) refl real
-    where
-      by_place : (o : Option Placed) → placed_of page id ≡ o → option_map_or (λ q. is_real_context (parent_of q.above) q.label) o false ≡ true → flattened 256 lists id ≡ map (number_of items) (option_map_or layer o [])
-      by_place None is real' = absurd (false≢true real')
-      by_place (Some p) is real' = flattens 256 id p is real' (few_levels id p is)
+  lists-flatten id real =
+      let c = context_at page id real in
+      flattens 256 id c (few_levels id c) ∙ ap (map (number_of items)) (sym (of_node-context page id c layer))

@@ -1,12 +1,12 @@
 -- Where stacking contexts stand in lists: each but the root in the list of the nearest one above it, and in no other.
-use Rattle.std.proofs.Common.{◌≡◌, ◌⊎◌, ℕ, ◌+◌, ◌<◌, ◌≤◌, ◌==◌, List, [], ◌∷◌, length, Option, Some, None, slice_get, Bool, true, false, refl, sym, ap, ◌∙◌, subst, inl, inr, arith}
+use Rattle.std.proofs.Common.{◌≡◌, ◌⊎◌, ℕ, ◌+◌, ◌<◌, ◌≤◌, ◌==◌, List, [], ◌∷◌, length, Option, Some, slice_get, Bool, true, false, refl, sym, ap, ◌∙◌, subst, inl, inr, arith}
 use Rattle.std.specs.Prelude.{if◌then◌else◌}
 use Rattle.std.specs.List.{list_any}
 use Rattle.std.specs.Option.{option_map_or}
 use Rattle.std.proofs.lemmas.Bool.{false≢true}
 use Rattle.std.proofs.lemmas.Bool.Decides.{nat_tests}
 use Rattle.box_tree.specs.Forest.{Label, Forest, End, Grow, height_of, Placed, placed_in, roots_of}
-use Rattle.box_tree.specs.Contents.{Contents, placed_of, IsValid}
+use Rattle.box_tree.specs.Contents.{Contents, IsValid}
 use Rattle.box_tree.specs.Containing.{parent_of, makes_context}
 use Rattle.box_tree.specs.Edited.{is_root}
 use Rattle.box_tree.specs.Used.{is_real_context}
@@ -17,15 +17,14 @@ use Rattle.stacking.specs.Contexts.{nearest_context, context_of}
 use Rattle.stacking.specs.Lists.{IsListedAt}
 use Rattle.stacking.proofs.CountLemmas.{total}
 use Rattle.stacking.proofs.WeightLemmas.{heavy, given_by, given-step}
-use Rattle.stacking.proofs.MemberLemmas.{IsListed, listed-at}
-use Rattle.stacking.proofs.EntryLemmas.{sub_weight, context_weight, plain-weight, sub-list, IsListIn, list_in}
+use Rattle.stacking.proofs.MemberLemmas.{IsContextAt, context_at, makes-context, of_node-context, IsListed, listed-at}
+use Rattle.stacking.proofs.EntryLemmas.{sub_weight, context_weight, plain-weight, sub-list, list_at, at_place}
 
 -- a stacking context in whose list another stands
 pub record HasInList (page : Contents) (id : ℕ) : Type 0 where
-  pub place : Placed
-  pub found : placed_of page place.label.id ≡ Some place
-  pub real : at is_real_context place ≡ true
-  pub some : 0 < total (sub_weight id) (entries place)
+  pub context : ℕ
+  pub at_place : IsContextAt page context
+  pub some : 0 < total (sub_weight id) (entries at_place.place)
 
 module _ (page : Contents) (id : ℕ) where
   -- how often trees give the stacking context as a member
@@ -58,7 +57,7 @@ module _ (page : Contents) (id : ℕ) where
       by_test : (b : Bool) → is_real_context (parent_of above) n ≡ b → 0 < given (n ∷ above) below →
           given above (Grow n below others) ≡ (context_weight id (record { label = n; above = above; below = below }) + (if is_real_context (parent_of above) n then 0 else given (n ∷ above) below)) + given above others →
           (0 < given above (Grow n below others)) ⊎ HasInList page id
-      by_test true is some step = inr (record { place = record { label = n; above = above; below = below }; found = known.0; real = is; some = omega (arith, some, sub-list id (record { label = n; above = above; below = below })) })
+      by_test true is some step = inr (record { context = n.id; at_place = record { place = record { label = n; above = above; below = below }; found = known.0; real = is }; some = omega (arith, some, sub-list id (record { label = n; above = above; below = below })) })
       by_test false is some step = inl (omega (arith, some, step, ap (λ b. if b then 0 else given (n ∷ above) below) is))
 
   -- only the root is given by the whole tree
@@ -82,40 +81,36 @@ which id (SubContext other) some = by_test (other == id) refl some
 
 -- what stands as a stacking context in the list of one
 module _ (page : Contents) (valid : IsValid page) (id context k : ℕ) (is : IsListedAt page (SubContext id) context k) where
-  abbrev list : IsListIn page (SubContext id) context k
-  list = list_in page (SubContext id) context k is
+  abbrev list : IsContextAt page context
+  list = list_at page (SubContext id) context k is
 
   abbrev sub : IsListed page (height_of list.place.below) list.place.label.id id
-  sub = listed-at page context list.place valid list.found list.real k id list.at_place
-
-  sub-found : placed_of page id ≡ Some sub.place
-  sub-found = ap (placed_of page) (sym sub.id_is) ∙ sub.within.stands
+  sub = listed-at page context list valid k id (at_place page (SubContext id) context k is)
 
   -- is one of the page
   pub sub-real : makes_context page id ≡ true
-  sub-real = ap (λ (o : Option Placed). option_map_or (λ q. is_real_context (parent_of q.above) q.label) o false) sub-found ∙ sub.real
+  sub-real = makes-context page id sub.at_place
 
   -- and that one is the nearest above it
   pub sub-nearest : context_of page id ≡ context
-  sub-nearest = ap (λ (o : Option Placed). nearest_context (option_map_or (λ q. q.above) o [])) sub-found ∙ sub.within.nearest ∙ id-placed_in page.tree [] context list.place list.found
+  sub-nearest = ap (λ (o : Option Placed). nearest_context (option_map_or (λ q. q.above) o [])) sub.at_place.found ∙ sub.within.nearest ∙ id-placed_in page.tree [] context list.place list.found
 
 -- a stacking context other than the root
 module _ (page : Contents) (valid : IsValid page) (id : ℕ) (real : makes_context page id ≡ true) (inner : is_root page id ≡ false) where
   has_in_list : HasInList page id
-  has_in_list = by_place (placed_of page id) refl real
-    where
-      by_place : (o : Option Placed) → placed_of page id ≡ o → option_map_or (λ q. is_real_context (parent_of q.above) q.label) o false ≡ true → HasInList page id
-      by_place None found real' = absurd (false≢true real')
-      by_place (Some q) found real' = elim (given_or_listed page id [] page.tree q (page-at_places page valid) found real') [
+  has_in_list =
+      let c = context_at page id real in
+      elim (given_or_listed page id [] page.tree c.place (page-at_places page valid) c.found c.real) [
         | inl some ↦ absurd (false≢true (sym inner ∙ root-given page id page.tree valid.one_tree some))
         | inr listed ↦ listed
       ]
 
   pub stands_above : (k : ℕ) × IsListedAt page (SubContext id) (context_of page id) k
   stands_above =
-      let in_list = heavy (sub_weight id) (entries has_in_list.place) has_in_list.some in
-      let is : IsListedAt page (SubContext id) has_in_list.place.label.id in_list.place = record {
-        is_context = ap (λ (o : Option Placed). option_map_or (λ q. is_real_context (parent_of q.above) q.label) o false) has_in_list.found ∙ has_in_list.real;
-        stands = ap (λ (o : Option Placed). slice_get (option_map_or entries o []) in_list.place) has_in_list.found ∙ in_list.at ∙ ap Some (which id in_list.element in_list.some);
+      let has = has_in_list in
+      let in_list = heavy (sub_weight id) (entries has.at_place.place) has.some in
+      let is : IsListedAt page (SubContext id) has.context in_list.place = record {
+        is_context = makes-context page has.context has.at_place;
+        stands = ap (λ es. slice_get es in_list.place) (of_node-context page has.context has.at_place entries) ∙ in_list.at ∙ ap Some (which id in_list.element in_list.some);
       } in
-      (in_list.place, subst (λ (c : ℕ). IsListedAt page (SubContext id) c in_list.place) (sym (sub-nearest page valid id has_in_list.place.label.id in_list.place is)) is)
+      (in_list.place, subst (λ (c : ℕ). IsListedAt page (SubContext id) c in_list.place) (sym (sub-nearest page valid id has.context in_list.place is)) is)

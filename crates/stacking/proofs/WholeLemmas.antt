@@ -1,8 +1,8 @@
 -- What a forest of lists asks of the lists of a page: each but that of the root stands in one, and no number stands twice.
-use Rattle.std.proofs.Common.{◌≡◌, ◌≢◌, ◌⊎◌, ℕ, suc, ◌<◌, ◌≤◌, ◌==◌, List, [], ◌∷◌, ◌++◌, length, map, Option, Some, None, IsSome, is_some, slice_get, Bool, true, false, refl, sym, ap, ◌∙◌, subst, inl, inr, arith, get_or}
+use Rattle.std.proofs.Common.{◌≡◌, ◌≢◌, ◌⊎◌, ℕ, suc, ◌<◌, ◌≤◌, ◌==◌, List, [], ◌∷◌, ◌++◌, length, Option, Some, None, IsSome, is_some, slice_get, Bool, true, false, refl, sym, ap, ◌∙◌, subst, inl, inr, arith, get_or}
 use Rattle.std.specs.Prelude.{if◌then◌else◌, ◌&&◌, Contains, All}
 use Rattle.std.specs.List.{list_any}
-use Rattle.std.specs.Option.{option_map, option_map_or}
+use Rattle.std.specs.Option.{option_map}
 use Rattle.std.proofs.lemmas.Bool.{cases_lt, false≢true}
 use Rattle.std.proofs.lemmas.Bool.Decides.{nat_tests}
 use Rattle.std.proofs.lemmas.Option.{none-some, same_Some, slice_get-map, slice_get-get_or}
@@ -11,8 +11,7 @@ use Rattle.box_tree.specs.declared.item.Part.{Part}
 use Rattle.box_tree.specs.declared.item.Part.TheVariants.{Box, Content, Outline}
 use Rattle.box_tree.specs.Forest.{Label, Forest, End, Grow, Placed, roots_of}
 use Rattle.box_tree.specs.Contents.{Contents, node_at, placed_of, IsValid, IsGiven}
-use Rattle.box_tree.specs.Containing.{parent_of, makes_context}
-use Rattle.box_tree.specs.Used.{is_real_context}
+use Rattle.box_tree.specs.Containing.{makes_context}
 use Rattle.box_tree.specs.Edited.{is_root}
 use Rattle.box_tree.specs.Items.{items_of, items_at, node_items}
 use Rattle.box_tree.specs.Numbers.{ItemsState, Names, IsItem, IsNumberedPage}
@@ -26,10 +25,11 @@ use Rattle.stacking.specs.Painting.{own, drawn, ContextEntry, OneItem, SubContex
 use Rattle.stacking.specs.OnPage.{of_node}
 use Rattle.stacking.specs.Contexts.{context_of}
 use Rattle.stacking.specs.Counting.{count, items_in, is_part, is_item}
-use Rattle.stacking.specs.Lists.{number_of, numbered, AreListsOf, HasOnlyListsOf, IsListedAt}
+use Rattle.stacking.specs.Lists.{number_of, numbered, kept_list, AreListsOf, HasOnlyListsOf, IsListedAt}
 use Rattle.stacking.proofs.CountLemmas.{count-append, all_items_are_painted}
 use Rattle.stacking.proofs.WeightLemmas.{weighs}
-use Rattle.stacking.proofs.EntryLemmas.{item_weight, weight-itself, one-list, root-lists, list_in, same_context, same_place}
+use Rattle.stacking.proofs.EntryLemmas.{item_weight, weight-itself, one-list, root-lists, list_at, at_place, same_context, same_place}
+use Rattle.stacking.proofs.MemberLemmas.{context_at}
 use Rattle.stacking.proofs.NestLemmas.{list-there}
 use Rattle.stacking.proofs.StandLemmas.{stands_above, sub-real}
 
@@ -96,13 +96,13 @@ module _ (page : Contents) (valid : IsValid page) (item : Item) where
   -- and so is one that stands in a list
   listed-item : (context k : ℕ) → IsListedAt page (OneItem item) context k → IsItem page item
   listed-item context k is =
-      let p = list_in page (OneItem item) context k is in
+      let c = list_at page (OneItem item) context k is in
       let test = is_item item in
       in_trees-item [] page.tree (page-at_places page valid) (omega (
         arith,
-        weighs (item_weight test) (entries p.place) k (OneItem item) p.at_place,
+        weighs (item_weight test) (entries c.place) k (OneItem item) (at_place page (OneItem item) context k is),
         weight-itself (OneItem item),
-        one-list (item_weight test) page.tree [] context p.place p.found p.real,
+        one-list (item_weight test) page.tree [] context c.place c.found c.real,
         root-lists test page.tree valid.one_tree,
         all_items_are_painted page valid test,
       ))
@@ -126,7 +126,7 @@ module _ (page : Contents) (valid : IsValid page) (items : ItemsState) (are_numb
     at : IsListedAt page listed context k
     number_is : numbered items listed ≡ kept
 
-  kept_at : (kept : Entry) (context k : ℕ) → makes_context page context ≡ true → slice_get (map (numbered items) (of_node entries page context)) k ≡ Some kept → IsKeptAt kept context k
+  kept_at : (kept : Entry) (context k : ℕ) → makes_context page context ≡ true → slice_get (kept_list items page context) k ≡ Some kept → IsKeptAt kept context k
   kept_at kept context k real stands = by_entry (slice_get (of_node entries page context) k) refl (sym (slice_get-map (numbered items) (of_node entries page context) k) ∙ stands)
     where
       by_entry : (o : Option ContextEntry) → slice_get (of_node entries page context) k ≡ o → option_map (numbered items) o ≡ Some kept → IsKeptAt kept context k
@@ -136,17 +136,17 @@ module _ (page : Contents) (valid : IsValid page) (items : ItemsState) (are_numb
   kept-same : (kept : Entry) (c d j k : ℕ) → (is : IsKeptAt kept c j) → (is' : IsKeptAt kept d k) → IsListedAt page is.listed d k
   kept-same kept c d j k is is' = subst (λ (e : ContextEntry). IsListedAt page e d k) (numbered-same is'.listed is.listed d c k j is'.at is.at (is'.number_is ∙ sym is.number_is)) is'.at
 
-  pub lists-distinct : (context : ℕ) → makes_context page context ≡ true → AreDistinct (map (numbered items) (of_node entries page context))
+  pub lists-distinct : (context : ℕ) → makes_context page context ≡ true → AreDistinct (kept_list items page context)
   lists-distinct context real = λ j k kept at at'.
       let is = kept_at kept context j real at in
       let is' = kept_at kept context k real at' in
       same_place page valid is.listed context context j k is.at (kept-same kept context context j k is is')
 
-  pub nowhere-else : (lists : Lists) → HasOnlyListsOf lists page items → (context : ℕ) → makes_context page context ≡ true → StandNowhereElse lists context (map (numbered items) (of_node entries page context))
+  pub nowhere-else : (lists : Lists) → HasOnlyListsOf lists page items → (context : ℕ) → makes_context page context ≡ true → StandNowhereElse lists context (kept_list items page context)
   nowhere-else lists only context real = λ l j k kept at at'. by_list l j k kept at at' (only l)
     where
-      by_list : (l j k : ℕ) (kept : Entry) → slice_get (map (numbered items) (of_node entries page context)) j ≡ Some kept → StandsAt lists kept l k →
-          (entries_of lists l ≡ []) ⊎ ((makes_context page l ≡ true) × (entries_of lists l ≡ map (numbered items) (of_node entries page l))) → l ≡ context
+      by_list : (l j k : ℕ) (kept : Entry) → slice_get (kept_list items page context) j ≡ Some kept → StandsAt lists kept l k →
+          (entries_of lists l ≡ []) ⊎ ((makes_context page l ≡ true) × (entries_of lists l ≡ kept_list items page l)) → l ≡ context
       by_list l j k kept at at' (inl none) = absurd (none-some kept (sym (ap (λ (es : List Entry). slice_get es k) none) ∙ at'))
       by_list l j k kept at at' (inr is_list) =
           let is = kept_at kept context j real at in
@@ -158,17 +158,14 @@ module _ (page : Contents) (valid : IsValid page) (items : ItemsState) (are_numb
   in_room (OneItem item) context k is =
       let has = are_numbered.each item (listed-item page valid item context k is) in
       subst (λ (n : ℕ). n < 655360) (sym has.1.number_is) (are_numbered.below has.0 item has.1)
-  in_room (SubContext id) context k is = by_place (placed_of page id) refl (sub-real page valid id context k is)
-    where
-      by_place : (o : Option Placed) → placed_of page id ≡ o → option_map_or (λ q. is_real_context (parent_of q.above) q.label) o false ≡ true → id < page.next
-      by_place None found real = absurd (false≢true real)
-      by_place (Some q) found real =
-          let given = (each-placed (IsGiven page.next) page.tree [] id q valid.given found).0 in
-          subst (λ (i : ℕ). i < page.next) (id-placed_in page.tree [] id q found) given.below_next
+  in_room (SubContext id) context k is =
+      let c = context_at page id (sub-real page valid id context k is) in
+      let given = (each-placed (IsGiven page.next) page.tree [] id c.place valid.given c.found).0 in
+      subst (λ (i : ℕ). i < page.next) (id-placed_in page.tree [] id c.place c.found) given.below_next
 
-  pub all-in_room : (context : ℕ) → makes_context page context ≡ true → All (IsInRoom 655360 page.next) (map (numbered items) (of_node entries page context))
+  pub all-in_room : (context : ℕ) → makes_context page context ≡ true → All (IsInRoom 655360 page.next) (kept_list items page context)
   all-in_room context real = λ k none within.
-      let kept = map (numbered items) (of_node entries page context) in
+      let kept = kept_list items page context in
       let is = kept_at (get_or kept k none) context k real (slice_get-get_or kept k none within) in
       subst (IsInRoom 655360 page.next) is.number_is (in_room is.listed context k is.at)
 
@@ -176,15 +173,15 @@ module _ (page : Contents) (valid : IsValid page) (items : ItemsState) (are_numb
 module _ (page : Contents) (valid : IsValid page) (items : ItemsState) (lists : Lists) (are : AreListsOf lists page items) where
   stands-in_table : (listed : ContextEntry) (context k : ℕ) → IsListedAt page listed context k → StandsAt lists (numbered items listed) context k
   stands-in_table listed context k is =
-      let p = list_in page listed context k is in
-      ap (λ (es : List Entry). slice_get es k) (list-there page valid items lists are context p.place p.found p.real)
-      ∙ slice_get-map (numbered items) (entries p.place) k ∙ ap (option_map (numbered items)) p.at_place
+      let c = list_at page listed context k is in
+      ap (λ (es : List Entry). slice_get es k) (list-there page valid items lists are context c)
+      ∙ slice_get-map (numbered items) (entries c.place) k ∙ ap (option_map (numbered items)) (at_place page listed context k is)
 
   -- what has a list is a stacking context
   has_list-context : (id : ℕ) → IsSome (list_under lists id) → makes_context page id ≡ true
   has_list-context id some = by_test (makes_context page id) (sym (ap is_some (are id)) ∙ some)
     where
-      by_test : (b : Bool) → is_some (if b then Some (map (numbered items) (of_node entries page id)) else None) ≡ true → b ≡ true
+      by_test : (b : Bool) → is_some (if b then Some (kept_list items page id) else None) ≡ true → b ≡ true
       by_test true is = refl
       by_test false is = absurd (false≢true is)
 
