@@ -59,12 +59,13 @@ fn compare_at<L: Ledger>(
     Ok(())
 }
 
-// Edits a new engine, and compares the answers at points with those that are wanted.
+// Edits a new engine, and compares the answers at points, and the chains of elements, with those that are wanted.
 fn compare<L: Ledger>(
     rt: &impl Abort,
     alloc: Global,
     edits: &[Edit],
     answers: &[(i64, i64, &[u32])],
+    chains: &[(u32, &[u32])],
     blank: Blank,
 ) -> Result<(), Fail>
     requires name { blank.name ≡ L.name }
@@ -81,16 +82,21 @@ fn compare<L: Ledger>(
         assert!(rt; -100_000 < x && x < 100_000 && -100_000 < y && y < 100_000);
         compare_at(rt, alloc, &engine, x, y, wanted, &mut steps)?;
     }
+    for &(id, wanted) in chains {
+        assert!(rt; engine.page().has(id));
+        let ids = crate::chain(alloc, &engine, id, &mut steps)?;
+        assert_eq!(rt; ids.as_slice(), wanted, "{id}");
+    }
     Ok(())
 }
 
 #[test]
 fn an_empty_page_has_no_element(rt: HostRuntime) -> Result<(), Fail> {
-    compare::<Brand>(&rt, rt.alloc(), &[], &[(5, 5, &[])], Blank::new(1))
+    compare::<Brand>(&rt, rt.alloc(), &[], &[(5, 5, &[])], &[], Blank::new(1))
 }
 
 #[test]
-fn boxes_are_half_open_and_the_root_comes_last(rt: HostRuntime) -> Result<(), Fail> {
+fn boxes_are_half_open_and_chains_lead_from_the_root(rt: HostRuntime) -> Result<(), Fail> {
     let alloc = rt.alloc();
     let edits = vec![in alloc;
         block(alloc, 0, 0, &[(0, 0, 100, 100)])?,
@@ -120,36 +126,7 @@ fn boxes_are_half_open_and_the_root_comes_last(rt: HostRuntime) -> Result<(), Fa
             (-1, 0, &[]),
             (0, -1, &[]),
         ],
+        &[(1, &[1]), (3, &[1, 3]), (4, &[1, 2, 4]), (6, &[1, 2, 5, 6])],
         Blank::new(1),
     )
-}
-
-// Compares the chains of the nodes of a page of three nested blocks and one beside them.
-fn compare_chains<L: Ledger>(rt: &impl Abort, alloc: Global, blank: Blank) -> Result<(), Fail>
-    requires name { blank.name ≡ L.name }
-    requires parts { blank.parts ≡ L.parts }
-    requires some_parts { 0 < blank.parts }
-{
-    let mut steps = Steps::<L>::new(blank);
-    let mut engine = Engine::new(alloc, 81_920, 46_080)?;
-    for (parent, at) in [(0, 0), (1, 0), (2, 0), (1, 1)] {
-        let edit = block(alloc, parent, at, &[(0, 0, 100, 100)])?;
-        assert!(rt; edit.in_range());
-        assert!(rt; engine.edit(&edit, &mut steps).is_ok());
-    }
-    for (id, wanted) in [
-        (1, [1].as_slice()),
-        (3, [1, 2, 3].as_slice()),
-        (4, [1, 4].as_slice()),
-    ] {
-        assert!(rt; engine.page().has(id));
-        let ids = crate::chain(alloc, &engine, id, &mut steps)?;
-        assert_eq!(rt; ids.as_slice(), wanted, "{id}");
-    }
-    Ok(())
-}
-
-#[test]
-fn a_chain_leads_from_the_root_to_its_element(rt: HostRuntime) -> Result<(), Fail> {
-    compare_chains::<Brand>(&rt, rt.alloc(), Blank::new(1))
 }
