@@ -1,7 +1,6 @@
 -- Whatever is counted, a layer has as many of it as the trees.
 use Rattle.std.proofs.Common.{◌≡◌, ℕ, ◌+◌, ◌≤◌, List, [], ◌∷◌, ◌++◌, Bool, true, false, not, ◌&&◌, ◌||◌, refl, sym, ap, ◌∙◌, subst, arith}
-use Rattle.std.specs.Prelude.{if◌then◌else◌, ◌==◌, int_lt, pos, ℤ, Option, Some, None, is_some, cond, length, IsTrue}
-use Rattle.std.proofs.lemmas.Int.{ints}
+use Rattle.std.specs.Prelude.{if◌then◌else◌, ◌==◌, Option, Some, None, is_some, length, IsTrue}
 use Rattle.std.proofs.lemmas.Bool.{false≢true}
 use Rattle.std.proofs.lemmas.Bool.Decides.{nat_tests}
 use Rattle.std.specs.List.{filter, flat_map}
@@ -13,44 +12,16 @@ use Rattle.box_tree.specs.declared.item.Item.{Item}
 use Rattle.box_tree.specs.Forest.{Label, Forest, End, Grow, Placed}
 use Rattle.box_tree.specs.Containing.{parent_of}
 use Rattle.box_tree.specs.Used.{is_floating, is_block_level, is_block_level_as, is_block_container, is_block_container_as, is_atomic_as, is_positioned, is_real_context, is_in_flow, position_as, takes_offsets, takes_out, used_position, may_make_context, may_float, has_context_style}
-use Rattle.stacking.specs.Painting.{is_inline_kind, is_replaced_kind, is_entered, is_block, is_member, is_float, is_inline, is_atom, has_head, at, own, content, content_as, drawn, drawn_as, outlines, head, Whole, LinePiece, Share, box_items, box_pieces, own_pieces, first_line, pieces_with, shares_of, shares_in, reach, blocks, floats, pieces, is_on_lower_line, level_of, is_on_lower_level, context_members, painted_piece, flat, lines, body, painted_member, layer}
-use Rattle.stacking.specs.Sorting.{put_in_order, sorted_by}
+use Rattle.stacking.specs.Painting.{is_inline_kind, is_replaced_kind, is_entered, is_block, is_member, is_float, is_inline, is_atom, has_head, at, own, content, content_as, drawn, drawn_as, outlines, head, Whole, LinePiece, Share, box_items, box_pieces, own_pieces, first_line, pieces_with, shares_of, shares_in, reach, blocks, floats, pieces, is_on_lower_line, painted_piece, flat, lines, body, painted_member, layer, context_list}
+use Rattle.stacking.specs.Sorting.{sorted_by}
 use Rattle.stacking.specs.Counting.{count, items_in, root_layer, AllItemsArePainted}
 use Rattle.computed_style.specs.Defaults.{is_empty, has_initial_flow}
 use Rattle.box_tree.specs.Suits.{may_hold, kind_suits, box_count_suits, is_below_root, is_text, is_flow, is_area, is_svg_content, style_suits}
 use Rattle.box_tree.specs.Contents.{IsSuited}
 use Rattle.box_tree.specs.Forest.{EachNode, roots_of}
 use Rattle.stacking.proofs.LevelLemmas.{flat-is, layer-is}
+use Rattle.stacking.proofs.WeightLemmas.{total, total-append, total-sorted, total-same, total-list}
 use Rattle.stacking.proofs.ShareLemmas.{Throughout}
-
--- no number is both below and above 0
-one_sign : (z : ℤ) → (int_lt z (pos 0) && int_lt (pos 0) z) ≡ false
-one_sign z = grind (arith, ints)
-
-plain_sum : (l f h b x y z m : ℕ) → l ≡ h + (x + (b + (y + z))) → f ≡ h + b → x + (y + z) ≡ m → l ≡ f + m
-plain_sum l f h b x y z m e e' e'' = omega arith
-
--- a sum over a list
-abbrev pub total : {X : Type 0} → (X → ℕ) → List X → ℕ
-total weight [] = 0
-total weight (x ∷ xs) = weight x + total weight xs
-
-pub total-append : {X : Type 0} (w : X → ℕ) (xs ys : List X) → total w (xs ++ ys) ≡ total w xs + total w ys
-total-append w [] ys = omega arith
-total-append w (x ∷ xs) ys = omega (arith, total-append w xs ys)
-
-total-put : {X : Type 0} (w : X → ℕ) (lt : X → X → Bool) (x : X) (ys : List X) → total w (put_in_order lt x ys) ≡ w x + total w ys
-total-put w lt x [] = refl
-total-put w lt x (y ∷ ys) = by_test (total-put w lt x ys) (lt y x)
-  where
-    by_test : total w (put_in_order lt x ys) ≡ w x + total w ys → (b : Bool) → total w (if b then y ∷ put_in_order lt x ys else x ∷ (y ∷ ys)) ≡ w x + (w y + total w ys)
-    by_test rest true = omega (arith, rest)
-    by_test rest false = refl
-
--- a sort moves elements only
-pub total-sorted : {X : Type 0} (w : X → ℕ) (lt : X → X → Bool) (xs : List X) → total w (sorted_by lt xs) ≡ total w xs
-total-sorted w lt [] = refl
-total-sorted w lt (x ∷ xs) = omega (arith, total-put w lt x (sorted_by lt xs), total-sorted w lt xs)
 
 module _ (test : Item → Bool) where
   abbrev pub n : List Item → ℕ
@@ -139,38 +110,26 @@ module _ (test : Item → Bool) where
       ∙ ap (λ k. k + n (body p)) (count-if_some (at has_head p) (own p))
       ∙ ap (λ k. (if at has_head p then n (own p) else 0) + k) (count-body p ∙ ap (λ k. k + n (lines p)) (total-unless W (is_replaced_kind p.label.kind) (flat_map (λ s. s.reach) (shares_in p))))
 
-  -- the members of the three kinds of levels are all members
-  by_sign : (ms : List Placed) → n (flat_map (painted_member layer) (filter (λ m. int_lt (level_of m) (pos 0)) ms))
-      + (n (flat_map (painted_member layer) (filter (λ m. not (int_lt (level_of m) (pos 0)) && not (int_lt (pos 0) (level_of m))) ms))
-      + n (flat_map (painted_member layer) (filter (λ m. int_lt (pos 0) (level_of m)) ms))) ≡ total M ms
-  by_sign [] = refl
-  by_sign (m ∷ ms) = by_tests (by_sign ms) (int_lt (level_of m) (pos 0)) (int_lt (pos 0) (level_of m)) (one_sign (level_of m))
-    where
-      by_tests : n (flat_map (painted_member layer) (filter (λ m'. int_lt (level_of m') (pos 0)) ms)) + (n (flat_map (painted_member layer) (filter (λ m'. not (int_lt (level_of m') (pos 0)) && not (int_lt (pos 0) (level_of m'))) ms)) + n (flat_map (painted_member layer) (filter (λ m'. int_lt (pos 0) (level_of m')) ms))) ≡ total M ms → (b c : Bool) → (b && c) ≡ false →
-          n (flat_map (painted_member layer) (cond b (m ∷ filter (λ m'. int_lt (level_of m') (pos 0)) ms) (filter (λ m'. int_lt (level_of m') (pos 0)) ms)))
-          + (n (flat_map (painted_member layer) (cond (not b && not c) (m ∷ filter (λ m'. not (int_lt (level_of m') (pos 0)) && not (int_lt (pos 0) (level_of m'))) ms) (filter (λ m'. not (int_lt (level_of m') (pos 0)) && not (int_lt (pos 0) (level_of m'))) ms)))
-          + n (flat_map (painted_member layer) (cond c (m ∷ filter (λ m'. int_lt (pos 0) (level_of m')) ms) (filter (λ m'. int_lt (pos 0) (level_of m')) ms)))) ≡ M m + total M ms
-      by_tests rest true true one = absurd (false≢true (sym one))
-      by_tests rest true false one = omega (arith, rest, count-append (painted_member layer m) (flat_map (painted_member layer) (filter (λ m'. int_lt (level_of m') (pos 0)) ms)))
-      by_tests rest false true one = omega (arith, rest, count-append (painted_member layer m) (flat_map (painted_member layer) (filter (λ m'. int_lt (pos 0) (level_of m')) ms)))
-      by_tests rest false false one = omega (arith, rest, count-append (painted_member layer m) (flat_map (painted_member layer) (filter (λ m'. not (int_lt (level_of m') (pos 0)) && not (int_lt (pos 0) (level_of m'))) ms)))
+  abbrev one : Item → ℕ
+  one item = if test item then 1 else 0
 
+  count-total : (items : List Item) → total one items ≡ n items
+  count-total [] = refl
+  count-total (item ∷ items) = omega (arith, count-total items)
+
+  -- in a layer stand the items of the node painted as one, and what its members give
   pub count-layer : (p : Placed) → n (layer p) ≡ n (flat p) + member_sum (shares_in p)
-  count-layer p =
-      let painted = painted_member layer in
-      let ms = context_members p in
-      let negative = filter (λ m. int_lt (level_of m) (pos 0)) ms in
-      let zeroth = filter (λ m. not (int_lt (level_of m) (pos 0)) && not (int_lt (pos 0) (level_of m))) ms in
-      let positive = filter (λ m. int_lt (pos 0) (level_of m)) ms in
-      let all : total M ms ≡ member_sum (shares_in p) = total-sorted M is_on_lower_level (flat_map (λ s. s.members) (shares_in p)) in
-      let split : n (layer p) ≡ n (head p) + (n (flat_map painted negative) + (n (body p) + (n (flat_map painted zeroth) + n (flat_map painted positive)))) =
-      ap (λ xs. n xs) (layer-is p)
-      ∙ count-append (head p) (flat_map painted negative ++ (body p ++ (flat_map painted zeroth ++ flat_map painted positive)))
-      ∙ ap (λ k. n (head p) + k) (count-append (flat_map painted negative) (body p ++ (flat_map painted zeroth ++ flat_map painted positive))
-      ∙ ap (λ k. n (flat_map painted negative) + k) (count-append (body p) (flat_map painted zeroth ++ flat_map painted positive)
-      ∙ ap (λ k. n (body p) + k) (count-append (flat_map painted zeroth) (flat_map painted positive)))) in
-      let flat_is : n (flat p) ≡ n (head p) + n (body p) = ap (λ xs. n xs) (flat-is p) ∙ count-append (head p) (body p) in
-      plain_sum (n (layer p)) (n (flat p)) (n (head p)) (n (body p)) (n (flat_map painted negative)) (n (flat_map painted zeroth)) (n (flat_map painted positive)) (member_sum (shares_in p)) split flat_is (by_sign ms ∙ all)
+  count-layer p = omega (
+    arith,
+    ap (λ xs. n xs) (layer-is p),
+    count-total (context_list (λ items. items) (painted_member layer) p),
+    total-list one (λ items. items) (painted_member layer) p,
+    count-total (head p),
+    count-total (body p),
+    total-same (λ m. total one (painted_member layer m)) M (λ m. count-total (painted_member layer m)) (flat_map (λ s. s.members) (shares_in p)),
+    ap (λ xs. n xs) (flat-is p),
+    count-append (head p) (body p),
+  )
 
 -- what a node adds to the sums over the shares of trees, by what it is: `text`, `replaced` and `inline` by its kind, the
 -- words of its style, o of its boxes and c of its content, and the sums over what is below it

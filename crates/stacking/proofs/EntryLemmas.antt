@@ -17,10 +17,10 @@ use Rattle.stacking.specs.Painting.{at, shares_in, head, body, flat, ContextEntr
 use Rattle.stacking.specs.Counting.{count, is_item, is_part, root_layer}
 use Rattle.stacking.specs.Lists.{IsListedAt}
 use Rattle.stacking.proofs.LevelLemmas.{flat-is}
-use Rattle.stacking.proofs.CountLemmas.{total, count-append, count-layer}
+use Rattle.stacking.proofs.CountLemmas.{count-append, count-layer}
 use Rattle.stacking.proofs.MemberLemmas.{IsContextAt, context_at, of_node-context}
 use Rattle.stacking.proofs.OnceLemmas as once
-use Rattle.stacking.proofs.WeightLemmas.{total-same, total-plus, weighs, one_place, total-list, given_by, given-step}
+use Rattle.stacking.proofs.WeightLemmas.{total, total-same, total-plus, weighs, one_place, total-list, given_by, given-step}
 
 -- the weight of the lists of all stacking contexts among trees
 abbrev pub all_lists : (ContextEntry → ℕ) → List Label → Forest → ℕ

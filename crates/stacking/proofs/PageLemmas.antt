@@ -121,9 +121,6 @@ module _ (page : Contents) (valid : IsValid page) (id : ℕ) (node : Node) (seen
   gathered-end of_share k all = of_node-seen (gathered_from of_share k)
       ∙ ap (λ f. flat_map of_share (shares_of (here.label ∷ here.above) f)) (trees_from-all here.below k (subst (λ (ids : List ℕ). length ids ≤ k) (children_is page valid id node seen) all))
 
-  pub id-seen : here.label.id ≡ id
-  id-seen = id-placed_in page.tree [] id here found
-
   -- a node has no more boxes than can be numbered
   pub few_boxes : length node.boxes < 2 ^ 32
   few_boxes =

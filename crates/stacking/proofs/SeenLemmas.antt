@@ -98,23 +98,6 @@ module _ (page : Contents) (valid : IsValid page) (id : ℕ) (node : Node) (seen
       ∙ ap (λ c. if c then content (here page valid id node seen) else flat_map (painted_piece flat) (line_pieces (here page valid id node seen))) (kind-seen b is)
       ∙ sym (of_node-seen page valid id node seen lines)
 
-  -- its content, by its kind
-  pub content-seen : (kind : Kind) → node.kind ≡ kind → content_by kind (label_of node) (gathered outlines_of page id) ≡ of_node content page id
-  content-seen kind is = by_kind kind ∙ ap (λ k. content_as k (here page valid id node seen)) (sym is ∙ ap (λ (n : Label). n.kind) (label-seen page valid id node seen)) ∙ sym (of_node-seen page valid id node seen content)
-    where
-      by_kind : (k : Kind) → content_by k (label_of node) (gathered outlines_of page id) ≡ content_as k (here page valid id node seen)
-      by_kind Image = ap (λ (n : Label). content_item n.id n.boxes) (label-seen page valid id node seen)
-      by_kind Svg = of_node-seen page valid id node seen (gathered_in outlines_of)
-      by_kind Block = refl
-      by_kind Inline = refl
-      by_kind InlineBlock = refl
-      by_kind Text = refl
-      by_kind Map = refl
-      by_kind Area = refl
-      by_kind Group = refl
-      by_kind Shape = refl
-      by_kind Inner = refl
-
 -- the members of a node in tree order
 abbrev pub tree_members : Placed → List Placed
 tree_members p = flat_map (λ s. s.members) (shares_in p)

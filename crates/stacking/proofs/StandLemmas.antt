@@ -15,8 +15,7 @@ use Rattle.box_tree.proofs.SubtreeLemmas.{Head, Deeper, Beside, found_in}
 use Rattle.stacking.specs.Painting.{at, ContextEntry, OneItem, SubContext, entries}
 use Rattle.stacking.specs.Contexts.{nearest_context, context_of}
 use Rattle.stacking.specs.Lists.{IsListedAt}
-use Rattle.stacking.proofs.CountLemmas.{total}
-use Rattle.stacking.proofs.WeightLemmas.{heavy, given_by, given-step}
+use Rattle.stacking.proofs.WeightLemmas.{total, heavy, given_by, given-step}
 use Rattle.stacking.proofs.MemberLemmas.{IsContextAt, context_at, makes-context, of_node-context, IsListed, listed-at}
 use Rattle.stacking.proofs.EntryLemmas.{sub_weight, context_weight, plain-weight, sub-list, list_at, at_place}
 

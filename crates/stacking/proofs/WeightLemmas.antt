@@ -10,7 +10,29 @@ use Rattle.box_tree.specs.declared.item.Item.{Item}
 use Rattle.box_tree.specs.Forest.{Label, Forest, Grow, Placed}
 use Rattle.box_tree.specs.Used.{is_positioned, is_real_context}
 use Rattle.stacking.specs.Painting.{at, is_member, shares_of, shares_in, head, body, level_of, is_on_lower_level, context_members, context_list}
-use Rattle.stacking.proofs.CountLemmas.{total, total-append, total-sorted}
+use Rattle.stacking.specs.Sorting.{put_in_order, sorted_by}
+
+-- the weight of a list
+abbrev pub total : {X : Type 0} → (X → ℕ) → List X → ℕ
+total weight [] = 0
+total weight (x ∷ xs) = weight x + total weight xs
+
+pub total-append : {X : Type 0} (w : X → ℕ) (xs ys : List X) → total w (xs ++ ys) ≡ total w xs + total w ys
+total-append w [] ys = omega arith
+total-append w (x ∷ xs) ys = omega (arith, total-append w xs ys)
+
+total-put : {X : Type 0} (w : X → ℕ) (lt : X → X → Bool) (x : X) (ys : List X) → total w (put_in_order lt x ys) ≡ w x + total w ys
+total-put w lt x [] = refl
+total-put w lt x (y ∷ ys) = by_test (total-put w lt x ys) (lt y x)
+  where
+    by_test : total w (put_in_order lt x ys) ≡ w x + total w ys → (b : Bool) → total w (if b then y ∷ put_in_order lt x ys else x ∷ (y ∷ ys)) ≡ w x + (w y + total w ys)
+    by_test rest true = omega (arith, rest)
+    by_test rest false = refl
+
+-- a sort moves elements only
+pub total-sorted : {X : Type 0} (w : X → ℕ) (lt : X → X → Bool) (xs : List X) → total w (sorted_by lt xs) ≡ total w xs
+total-sorted w lt [] = refl
+total-sorted w lt (x ∷ xs) = omega (arith, total-put w lt x (sorted_by lt xs), total-sorted w lt xs)
 
 -- the weight of lists that are joined
 pub total-flat_map : {X Y : Type 0} (w : Y → ℕ) (f : X → List Y) (xs : List X) → total w (flat_map f xs) ≡ total (λ x. total w (f x)) xs
