@@ -111,9 +111,6 @@ answers_both xs ys {first} {mid} {last} {text} {more} begins goes_on = record {
       scripted_both xs ys first.pointer sooner (record { entries = later.entries; follows = (between, refl, later.follows.2); makes = later.makes });
 }
 
-pub answers_grow : {answer : Scene → Answer} {make : State → List Entry → Option Scripted} {before after : Known} {text : List ℕ} → IsAnswered answer make before after text → Grows before.log after.log
-answers_grow answers = grows_scripted answers.by_log
-
 -- What was put behind a text.
 
 pub appends_nothing : (now : Known) (out : List ℕ) → Appends (Answers [] now now) out out

@@ -73,14 +73,6 @@ pub no_lines : lines [] ≡ []
 unfolding lines
 no_lines = refl
 
--- a byte that is no newline goes on with the line
-pub newline_not_pushed : (line : List ℕ) (byte : ℕ) → has_newline line ≡ false → eqb byte 10 ≡ false → has_newline (line ++ byte ∷ []) ≡ false
-unfolding has_newline
-newline_not_pushed [] byte none other = rw other refl
-newline_not_pushed (b ∷ bs) byte none other =
-    let parts = neither (eqb b 10) (has_newline bs) none in
-    rw (parts.0, newline_not_pushed bs byte parts.1 other) refl
-
 pub newline_not_unfinished : (bytes : List ℕ) → has_newline (unfinished bytes) ≡ false
 unfolding unfinished
 newline_not_unfinished [] = no_newline
@@ -128,10 +120,6 @@ unfinished_more (b ∷ bs) more =
       | inl some ↦ rw (some, newline_kept (b ∷ bs) more some, unfinished_more bs more) refl
       | inr none ↦ rw none refl
     ]
-
--- lines go on behind whole ones
-onto_first_append : (b : ℕ) (line : List ℕ) (xs ys : List (List ℕ)) → onto_first b ((line ∷ xs) ++ ys) ≡ onto_first b (line ∷ xs) ++ ys
-onto_first_append b line xs ys = refl
 
 -- what has a newline has a first line
 first_whole_line : (bytes : List ℕ) → has_newline bytes ≡ true → (line : List ℕ) × (others : List (List ℕ)) × (lines (whole_lines bytes) ≡ line ∷ others)

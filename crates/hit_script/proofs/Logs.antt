@@ -12,9 +12,6 @@ use Rattle.hit_script.specs.Log.{Entry, IsFollowedBy, LogsAll, Logs, Grows, Scri
 pub grows_same : (log : Option (List Entry)) → Grows log log
 grows_same log after told = ([], (after, told, sym (append-nil after)))
 
-pub grows_as : {old new : Option (List Entry)} → new ≡ old → Grows old new
-grows_as {old} {new} same = rw same (grows_same old)
-
 pub follows_both : {first : Option (List Entry)} {mid : List Entry} {xs ys : List Entry} {after : List Entry} → IsFollowedBy first xs mid → IsFollowedBy (Some mid) ys after → IsFollowedBy first (xs ++ ys) after
 follows_both {first} {mid} {xs} {ys} {after} begins goes_on =
     let same : mid ≡ goes_on.0 = same_Some _ _ goes_on.1 in
@@ -31,13 +28,6 @@ pub logs_both : {first second third : Option (List Entry)} {xs ys : List Entry} 
 logs_both {first} {second} {third} {xs} {ys} begins goes_on after told =
     let later = goes_on after told in
     follows_both (begins later.0 later.1) (later.0, refl, later.2)
-
--- no entry
-pub logs_none : (log : Option (List Entry)) → LogsAll log log []
-logs_none log after told = (after, told, sym (append-nil after))
-
-pub grows_all : {old new : Option (List Entry)} {entries : List Entry} → LogsAll old new entries → Grows old new
-grows_all {old} {new} {entries} logs after told = (entries, logs after told)
 
 pub grows_by : {old new : Option (List Entry)} {entry : Entry} → Logs old new entry → Grows old new
 grows_by {old} {new} {entry} logs after told = (entry ∷ [], logs after told)

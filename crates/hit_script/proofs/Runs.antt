@@ -8,10 +8,6 @@ use Rattle.hit_script.proofs.LineLaws.{whole_and_unfinished, whole_lines_more, l
 nat_apart : {n : ℕ} → suc n ≡ 0 → ⊥
 nat_apart e = omega arith
 
-pub some_length : (line : List ℕ) → eqb (length line) 0 ≡ false → 0 < length line
-some_length [] some = absurd (both_ways true some refl)
-some_length (b ∷ bs) some = omega arith
-
 pub replies_from-append : (scene : Scene) (xs ys : List (List ℕ)) → replies_from scene (xs ++ ys) ≡ replies_from scene xs ++ replies_from (scene_behind scene xs) ys
 replies_from-append scene [] ys = refl
 replies_from-append scene (x ∷ xs) ys = rw (replies_from-append (answer_to scene x).scene xs ys) (sym (append_assoc (answer_to scene x).reply _ _))
@@ -31,7 +27,3 @@ all_lines_more bytes more =
     ap lines split ∙ lines_behind_whole bytes (unfinished bytes ++ more)
 
 -- The last line, which has no newline.
-
-pub lines_of_nothing : (line : List ℕ) → eqb (length line) 0 ≡ true → lines line ≡ []
-lines_of_nothing [] empty = no_lines
-lines_of_nothing (b ∷ bs) empty = absurd (nat_apart (eqb-true (length (b ∷ bs)) 0 empty))

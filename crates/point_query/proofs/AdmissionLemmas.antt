@@ -20,14 +20,6 @@ use Rattle.scroll_clip.specs.Clips.{inside_clips}
 use Rattle.point_query.specs.ImageMaps.{area_at, area_under}
 use Rattle.point_query.specs.Elements.{element_as, element_of, part_admits, row_holds, admits, elements_of}
 
--- an item of no node is not admitted
-pub elements_of-absent : (page : Contents) (x y : ℤ) (item : Item) → has_id page item.node ≡ false → elements_of page x y (item ∷ []) ≡ []
-elements_of-absent page x y item absent = ap (λ b. map (element_of page x y) (cond (b && inside_clips page item.node x y) (item ∷ []) [])) (by_place (placed_of page item.node) absent)
-  where
-    by_place : (o : Option Placed) → is_some o ≡ false → option_map_or (λ p. option_map_or (λ at. part_admits p.label (values_below p.above p.label) at item.part) (local_point page item.node x y) false) o false ≡ false
-    by_place None is = refl
-    by_place (Some p) is = absurd cc
-
 -- an item is admitted where its row holds at the local point, where there is one, and the point is inside the clips; then it
 -- gives the element of its node
 pub elements_of-seen : (page : Contents) (x y : ℤ) (item : Item) (node : Node) (at : Option FinePoint) (inherited : Inherited) →
