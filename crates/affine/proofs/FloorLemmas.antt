@@ -1,11 +1,10 @@
 -- The floor as a function, how large it is, and that its two inequalities leave no other number.
 use Rattle.std.proofs.Common.{ℕ, zero, suc, ◌≡◌, ◌≢◌, ◌≤◌, ℤ, pos, negsuc, ◌+ℤ◌, ◌*ℤ◌, ◌<ℤ◌, neg_ℤ, arith, refl, div-le_self}
-use borrow.Author.Differences.{le_out}
-use Rattle.std.proofs.Math.Nat.{mul-le-mul_right}
 use Rattle.std.proofs.Math.IntN.{*ℤ-negsuc}
 use Rattle.std.specs.Prelude.{Some, unsigned_abs}
 use Rattle.std.specs.Int.{int_div_euclid}
-use Rattle.std.proofs.lemmas.Int.{ints, by_lt_z}
+use Rattle.std.proofs.lemmas.Int.{ints}
+use Rattle.whole_numbers.proofs.Products.{lt-cancel}
 use Rattle.fractions.specs.Division.{IsFloor}
 use Rattle.fractions.proofs.DivisionLemmas.{IsFloor-over_positive, IsFloor-negated, div_euclid-at_most, div_euclid-above, next-mul}
 use Rattle.affine.specs.Point.{floor_of, rounded_down}
@@ -33,10 +32,6 @@ floor_of-size n (negsuc d) =
     let negated : unsigned_abs (neg_ℤ n) ≡ unsigned_abs n = omega (arith, ints) in
     rw negated at (div_euclid-size (neg_ℤ n) (suc d))
 
--- a positive factor may be left out of both sides of an order
-pub lt-cancel : (j l : ℤ) (b : ℕ) → (j *ℤ pos b) <ℤ (l *ℤ pos b) → j <ℤ l
-lt-cancel j l b h = by_lt_z j l (λ lt. lt) (λ le. absurd (omega (arith, ints, mul-le-mul_right b (le_out l j le))))
-
 below_next : (j k : ℤ) → j <ℤ (k +ℤ pos 1) → k <ℤ (j +ℤ pos 1) → j ≡ k
 below_next j k p q = omega (arith, ints)
 
@@ -46,14 +41,14 @@ IsFloor-unique n (pos zero) j k h p q = absurd (h refl)
 IsFloor-unique n (pos (suc d)) j k h p q =
     let positive : pos 0 <ℤ pos (suc d) = omega (arith, ints) in
     below_next j k
-    (lt-cancel j (k +ℤ pos 1) (suc d) (omega (arith, ints, p.at_most positive, q.next_above positive)))
-    (lt-cancel k (j +ℤ pos 1) (suc d) (omega (arith, ints, q.at_most positive, p.next_above positive)))
+    (lt-cancel j (k +ℤ pos 1) (pos (suc d)) (omega (arith, ints)) (omega (arith, ints, p.at_most positive, q.next_above positive)))
+    (lt-cancel k (j +ℤ pos 1) (pos (suc d)) (omega (arith, ints)) (omega (arith, ints, q.at_most positive, p.next_above positive)))
 IsFloor-unique n (negsuc d) j k h p q =
     let negative : negsuc d <ℤ pos 0 = omega (arith, ints) in
     below_next j k
-    (lt-cancel j (k +ℤ pos 1) (suc d)
+    (lt-cancel j (k +ℤ pos 1) (pos (suc d)) (omega (arith, ints))
     (omega (arith, ints, *ℤ-negsuc j d, *ℤ-negsuc (k +ℤ pos 1) d, p.at_most_turned negative, q.next_above_turned negative)))
-    (lt-cancel k (j +ℤ pos 1) (suc d)
+    (lt-cancel k (j +ℤ pos 1) (pos (suc d)) (omega (arith, ints))
     (omega (arith, ints, *ℤ-negsuc k d, *ℤ-negsuc (j +ℤ pos 1) d, q.at_most_turned negative, p.next_above_turned negative)))
 
 pub rounded_down-some : (x y w : ℤ) → w ≢ pos 0 → rounded_down x y w ≡ Some (floor_of x w, floor_of y w)

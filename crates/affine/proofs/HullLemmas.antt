@@ -5,11 +5,11 @@ use borrow.Author.Differences.{lt_out, le_out, true_is_lt}
 use Rattle.std.proofs.Math.Nat.{mul-le-mul_left}
 use Rattle.std.proofs.lemmas.Int.{ints, clamps}
 use Rattle.fractions.specs.declared.rect.Rect.{Rect}
-use Rattle.whole_numbers.proofs.Products.{mul_assoc, add-mul, le-mul, lt-mul}
+use Rattle.whole_numbers.proofs.Products.{mul_assoc, add-mul, le-mul, lt-mul, lt-cancel}
 use Rattle.affine.specs.declared.map.Parts.{Parts}
 use Rattle.affine.specs.Point.{image, whole_point, floor_of}
 use Rattle.affine.specs.Hull.{IsInClosed, IsHull, least_of, greatest_of, hull_of, zeros_if_empty}
-use Rattle.affine.proofs.FloorLemmas.{IsFloor-floor_of, lt-cancel}
+use Rattle.affine.proofs.FloorLemmas.{IsFloor-floor_of}
 
 -- products by one number keep the order, and by a negative one they turn it
 mul-le : (n : ℕ) (p q : ℤ) → p ≤ℤ q → (pos n *ℤ p) ≤ℤ (pos n *ℤ q)
@@ -108,10 +108,6 @@ module _ (a c e l r t b : ℤ) where
 some_from_positive : (q : ℤ) → pos 0 <ℤ q → q ≢ pos 0
 some_from_positive q h e = absurd (omega (arith, ints, e))
 
-lt-cancel_positive : (j l q : ℤ) → pos 0 <ℤ q → (j *ℤ q) <ℤ (l *ℤ q) → j <ℤ l
-lt-cancel_positive j l (pos q) positive h = lt-cancel j l q h
-lt-cancel_positive j l (negsuc q) positive h = absurd (omega (arith, ints))
-
 le-lt : (p q r : ℤ) → p ≤ℤ q → q <ℤ r → p <ℤ r
 le-lt p q r h k = omega (arith, ints)
 
@@ -137,14 +133,14 @@ floor-greatest n q k hq h =
     let f = floor_of n q in
     let floor = IsFloor-floor_of n q (some_from_positive q hq) in
     let below : k <ℤ (f +ℤ pos 1) =
-    lt-cancel_positive k (f +ℤ pos 1) q hq (le-lt (k *ℤ q) n ((f +ℤ pos 1) *ℤ q) (rw (times_one k q) at h) (floor.next_above hq)) in
+    lt-cancel k (f +ℤ pos 1) q hq (le-lt (k *ℤ q) n ((f +ℤ pos 1) *ℤ q) (rw (times_one k q) at h) (floor.next_above hq)) in
     omega (arith, ints, below)
 
 next-least : (n q k : ℤ) → pos 0 <ℤ q → n <ℤ (k *ℤ (q *ℤ pos 1)) → (floor_of n q +ℤ pos 1) ≤ℤ k
 next-least n q k hq h =
     let f = floor_of n q in
     let floor = IsFloor-floor_of n q (some_from_positive q hq) in
-    let below : f <ℤ k = lt-cancel_positive f k q hq (le-lt (f *ℤ q) n (k *ℤ q) (floor.at_most hq) (rw (times_one k q) at h)) in
+    let below : f <ℤ k = lt-cancel f k q hq (le-lt (f *ℤ q) n (k *ℤ q) (floor.at_most hq) (rw (times_one k q) at h)) in
     omega (arith, ints, below)
 
 -- the corners lie in the closed rectangle

@@ -21,20 +21,6 @@ covering-seen page x y (Grow n below others) above known =
     ap (λ b. if b then Some n.id else covering_among page x y (roots_of others)) here
     ∙ ap (λ o. if form_covers x y n.form then Some n.id else o) (covering-seen page x y others above known.1.1)
 
--- a node that is no map has no areas
-pub no_areas : (page : Contents) (map : ℕ) (n : Node) → node_of page map ≡ Some n → is_map n.kind ≡ false → areas_of page map ≡ End
-no_areas page map n seen is =
-    let at = seen_at page map n seen in
-    ap (λ o. option_map_or (λ p. if is_map p.label.kind then p.below else End) o End) at.found
-    ∙ ap (λ b. if b then at.place.below else End) (ap (λ (m : Node). is_map m.kind) at.node_is ∙ is)
-
-pub no_areas-unseen : (page : Contents) (map : ℕ) → node_of page map ≡ None → areas_of page map ≡ End
-no_areas-unseen page map none = by_place (placed_of page map) none
-  where
-    by_place : (o : Option Placed) → option_map node_at o ≡ None → option_map_or (λ p. if is_map p.label.kind then p.below else End) o End ≡ End
-    by_place None is = refl
-    by_place (Some p) is = absurd cc
-
 -- those of a map are its children
 pub record AreAreas (page : Contents) (map : ℕ) (x y : ℤ) (children : List ℕ) : Type 0 where
   pub ids : children ≡ roots_of (areas_of page map)

@@ -351,13 +351,3 @@ puts_more old now new gone all rest node so all_is puts count room ids_same = re
             or-nothing None = refl
             or-nothing (Some n) = refl
 
--- all are put
-pub puts_all : (old new : NodesState) (gone rest : List Node) → PutsUpTo old new gone rest → rest ≡ [] → ((k : ℕ) → node_with new.nodes k ≡ option_or (node_with old.nodes k) (node_with gone k)) × (length new.nodes ≡ length old.nodes + length gone)
-puts_all old new gone rest so none = (
-  λ k. sym (or-nothing (node_with new.nodes k)) ∙ ap (λ ns. option_or (node_with new.nodes k) (node_with ns k)) (sym none) ∙ so.looked_up k,
-  omega (arith, so.count, ap (λ (ns : List Node). length ns) none),
-)
-  where
-    or-nothing : (p : Option Node) → option_or p None ≡ p
-    or-nothing None = refl
-    or-nothing (Some n) = refl

@@ -296,42 +296,9 @@ pub record TakesListsUpTo (old now : ItemsState) (earlier : Vec Earlier Global) 
   pub back : back_by earlier.items now ≡ old
   pub room : vec_len earlier + length rest ≤ vec_capacity earlier
 
-pub takes_no_list : (old : ItemsState) (earlier : Vec Earlier Global) (ids : List ℕ) → earlier.items ≡ [] → vec_len earlier + length ids ≤ vec_capacity earlier → TakesListsUpTo old old earlier ids ids
-takes_no_list old earlier ids none room = record {
-  lists = λ x. refl;
-  given = refl;
-  can = subst (λ (es : List Earlier). CanGoBackBy es old) (sym none) tt;
-  back = ap (λ (es : List Earlier). back_by es old) none;
-  room = room;
-}
-
 -- an id that is another one stands among some or among one more
 among_other : (id x : ℕ) (rest : List ℕ) (here elsewhere : List ℕ) → here ≡ elsewhere → id ≢ x → (if is_among rest x then [] else here) ≡ (if is_among (id ∷ rest) x then [] else elsewhere)
 among_other id x rest here elsewhere same other = grind (arith, nat_tests, same, other)
-
--- a node without numbers
-pub takes_empty : (old now : ItemsState) (earlier : Vec Earlier Global) (ids rest : List ℕ) (id : ℕ) → TakesListsUpTo old now earlier ids (id ∷ rest) → length (numbers_of now id) ≡ 0 → TakesListsUpTo old now earlier ids rest
-takes_empty old now earlier ids rest id so none = record {
-  lists = λ x. at x ∙ so.lists x;
-  given = so.given;
-  can = so.can;
-  back = so.back;
-  room = omega (arith, so.room);
-}
-  where
-    at : (x : ℕ) → (if is_among rest x then [] else numbers_of now x) ≡ (if is_among (id ∷ rest) x then [] else numbers_of now x)
-    at x = elim (cases_eq id x) [
-      | inl same ↦
-          let nothing : numbers_of now x ≡ [] = nil_from_length (numbers_of now x) (subst (λ (i : ℕ). length (numbers_of now i) ≡ 0) same none) in
-          by_test (is_among rest x) (is_among (id ∷ rest) x) nothing
-      | inr other ↦ among_other id x rest (numbers_of now x) (numbers_of now x) refl other
-    ]
-      where
-        by_test : (a b : Bool) → numbers_of now x ≡ [] → (if a then [] else numbers_of now x) ≡ (if b then [] else numbers_of now x)
-        by_test true true nothing = refl
-        by_test true false nothing = sym nothing
-        by_test false true nothing = nothing
-        by_test false false nothing = refl
 
 -- a list that is not empty is kept at an id
 pub within_lists : (lists : List (List ℕ)) (id : ℕ) → 0 < length (get_or lists id []) → id < length lists
@@ -372,12 +339,6 @@ takes_list_so old now new earlier earlier' ids rest list e so some step none had
     subst (λ (s : ItemsState). TakesListsUpTo old s earlier' ids rest) (sym (step ∙ ap (λ (l : List ℕ). with_fewer e.id l now) none))
     (takes_list old now earlier earlier' ids rest e so (within_lists now.lists e.id some) had some items len capacity)
 
-pub takes_all_lists : (old now : ItemsState) (earlier : Vec Earlier Global) (ids rest : List ℕ) → TakesListsUpTo old now earlier ids rest → rest ≡ [] → IsTakenFrom ids old now
-takes_all_lists old now earlier ids rest so none = record {
-  lists = λ x. ap (λ (xs : List ℕ). if is_among xs x then [] else numbers_of now x) (sym none) ∙ so.lists x;
-  given = so.given;
-}
-
 -- the lists that are left can be had again, and lead to what all lead to
 pub record GoesBackBy (earlier : List Earlier) (old : ItemsState) (left : List Earlier) (now : ItemsState) : Type 0 where
   pub can : CanGoBackBy left now
@@ -402,18 +363,3 @@ pub record HasSameLists (old new : Vec (SmallVec ℕ) Global) (count : ℕ) : Ty
   pub sums : (f : List ℕ → ℕ) → f [] ≡ 0 → sum_by f (lists_in new.items) ≡ sum_by f (lists_in old.items)
   pub len : vec_len new ≡ count
 
-get_or-empty : (lists : List (List ℕ)) (x : ℕ) → get_or (lists ++ [] ∷ []) x [] ≡ get_or lists x []
-get_or-empty [] zero = refl
-get_or-empty [] (suc x) = refl
-get_or-empty (list ∷ lists) zero = refl
-get_or-empty (list ∷ lists) (suc x) = get_or-empty lists x
-
-pub same_lists_more : (old now new : Vec (SmallVec ℕ) Global) (list : SmallVec ℕ) (count : ℕ) → HasSameLists old now count → list.items ≡ [] → new.items ≡ now.items ++ list ∷ [] → vec_len new ≡ vec_len now + 1 → HasSameLists old new (count + 1)
-same_lists_more old now new list count so empty items len = record {
-  lists = λ x. ap (λ (ls : List (List ℕ)). get_or ls x []) pushed ∙ get_or-empty (lists_in now.items) x ∙ so.lists x;
-  sums = λ f none. ap (sum_by f) pushed ∙ sum_by-append f (lists_in now.items) ([] ∷ []) ∙ omega (arith, sum_by-cons f [] [], none) ∙ so.sums f none;
-  len = omega (arith, len, so.len);
-}
-  where
-    pushed : lists_in new.items ≡ lists_in now.items ++ [] ∷ []
-    pushed = ap lists_in items ∙ map_push (λ (l : SmallVec ℕ). l.items) now.items list ∙ ap (λ (l : List ℕ). lists_in now.items ++ l ∷ []) empty

@@ -88,13 +88,6 @@ module _ (places : List (Option ℕ)) (slots : List (Option Node)) (led : AreLed
   pub holds-some : (id slot : ℕ) → slot_of places id ≡ Some slot → IsSome (node_with (held slots) id) → IsSome (node_in_slot slots slot)
   holds-some id slot is some = subst IsSome (found-at id slot is) some
 
--- the table leads to the same slots where it has more places
-pub led-same : (places more : List (Option ℕ)) (slots : List (Option Node)) → ((x : ℕ) → slot_of more x ≡ slot_of places x) → AreLedTo places slots → AreLedTo more slots
-led-same places more slots same led = record {
-  leads = λ x k is. led.leads x k (sym (same x) ∙ is);
-  back = λ k n holds. same n.id ∙ led.back k n holds;
-}
-
 slot_of-more : (places : List (Option ℕ)) (m x : ℕ) → slot_of (places ++ replicate m None) x ≡ slot_of places x
 slot_of-more [] zero x = refl
 slot_of-more [] (suc m) zero = refl

@@ -97,10 +97,6 @@ module _ (s : ItemsState) (sound : AreSound s) where
       let k = get_or (numbers_of s x) place 0 in
       below-once k (length s.given) (omega (arith, times-at (numbers_of s x) place lt, times-in_lists k x s.lists, sound.each_once k))
 
-  -- so was one that is free
-  pub free-given : (k : ℕ) → 0 < times_in k s.free → k < length s.given
-  free-given k some = below-once k (length s.given) (omega (arith, some, sound.each_once k))
-
   -- a node keeps a front of its list
   pub sound-fewer : (id : ℕ) (list : List ℕ) → id < length s.lists → length list ≤ length (numbers_of s id) → take (length list) (numbers_of s id) ≡ list → AreSound (with_fewer id list s)
   sound-fewer id list placed fewer front = record {
@@ -278,16 +274,6 @@ module _ (id : ℕ) (kind : Kind) (list : List ℕ) (given : List Item) (free : 
 module _ (s : ItemsState) (sound : AreSound s) (id : ℕ) (kind : Kind) (list' : List ℕ) (given' : List Item) (free' : List ℕ) (placed : id < length s.lists) (filled : IsFilled id kind (numbers_of s id) s.given s.free list' given' free') where
   abbrev pub grown_to : ItemsState
   grown_to = record { given = given'; lists = set s.lists id list'; free = free' }
-
-  pub sound-grown : sum_by (λ list. length list) s.lists + length list' ≤ 327680 + length (numbers_of s id) → AreSound grown_to
-  sound-grown few = record {
-    each_once = λ k. omega (arith, sum_by-set (λ (l : List ℕ). times_in k l) s.lists id list' [] placed, filled.times k, sound.each_once k);
-    count = omega (arith, sum_by-set (λ (l : List ℕ). length l) s.lists id list' [] placed, filled.counts, sound.count);
-    most = elim filled.full [
-      | inl same ↦ omega (arith, same, sound.most)
-      | inr none ↦ omega (arith, ap (λ (xs : List ℕ). length xs) none, filled.counts, sound.count, few)
-    ];
-  }
 
   numbers-grown : numbers_of grown_to id ≡ list'
   numbers-grown = get_or-set_same s.lists id list' [] placed

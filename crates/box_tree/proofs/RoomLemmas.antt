@@ -4,16 +4,6 @@ use Rattle.std.specs.Prelude.{max}
 use Rattle.std.proofs.lemmas.Bool.{cases_lt}
 use Rattle.box_tree.specs.Room.{HasRoom, IsBetweenPowers}
 
-pub room_none : (room : ℕ) → HasRoom 0 room
-room_none room = record { doubled = λ k below. absurd (omega (arith, below)) }
-
-pub room_fewer : (len fewer room : ℕ) → fewer ≤ len → HasRoom len room → HasRoom fewer room
-room_fewer len fewer room le has = record { doubled = λ k below. has.doubled k (omega (arith, below, le)) }
-
--- between two powers of two there is room for one more
-pub fits_between : (len room : ℕ) → HasRoom len room → IsBetweenPowers len → len < room
-fits_between len room has between = omega (arith, has.doubled between.exponent between.above, between.below)
-
 pub room_between : (len room : ℕ) → HasRoom len room → IsBetweenPowers len → HasRoom (len + 1) room
 room_between len room has between = record {
   doubled = λ k below. elim (cases_lt (2 ^ k) len) [
@@ -24,10 +14,6 @@ room_between len room has between = record {
     ]
   ];
 }
-
--- and so there is with double room
-pub room_double : (len room : ℕ) → len + len ≤ room → HasRoom (len + 1) room
-room_double len room double = record { doubled = λ k below. omega (arith, below, double) }
 
 -- a power of two that is not below is room enough
 pub room_power : (len room power exponent : ℕ) → power ≡ 2 ^ exponent → len ≤ power → power ≤ room → HasRoom len room

@@ -44,14 +44,6 @@ node_suits-seen page parent kind style boxes =
     by_place None = refl
     by_place (Some p) = refl
 
--- the root has the depth 1
-pub has_no_parent-depth : (page : Contents) (id : ℕ) (n : Node) → node_of page id ≡ Some n → has_no_parent (ancestors_of page id) ≡ (n.depth == 1)
-has_no_parent-depth page id n seen =
-    let at = seen_at page id n seen in
-    ap (λ o. has_no_parent (option_map_or (λ p. p.above) o [])) at.found
-    ∙ sym (depth_one at.place.above)
-    ∙ ap (λ (m : Node). m.depth == 1) at.node_is
-
 -- a node that takes any style suits every style
 pub style_suits-any : (kind : Kind) (style : Style) → takes_style kind ≡ true → style_suits kind style ≡ true
 style_suits-any Block style takes = refl

@@ -28,11 +28,6 @@ abbrev pub roots_of : Forest → List ℕ
 roots_of End = []
 roots_of (Grow n below others) = n.id ∷ roots_of others
 
--- the nodes in tree order: each before its children, the children in order (DOM, 1.1)
-abbrev pub tree_order : Forest → List Label
-tree_order End = []
-tree_order (Grow n below others) = n ∷ (tree_order below ++ tree_order others)
-
 -- the ids of the nodes in tree order
 abbrev pub ids_in : Forest → List ℕ
 ids_in End = []

@@ -72,6 +72,13 @@ impl Items {
         self.given.len() - self.free.len()
     }
 
+    /// How many numbers were given so far, each below that.
+    pub(crate) fn given_count(&self) -> usize
+        ensures { result ≡ length self.now.items.given }
+    {
+        self.given.len()
+    }
+
     /// The item of a number.
     pub(crate) fn item(&self, number: u32) -> Item
         requires { IsNumber self.now.items number }

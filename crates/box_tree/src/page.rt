@@ -98,6 +98,15 @@ impl Page {
         self.items.count() as u32
     }
 
+    /// One past the greatest number that an item has, or has had: at most 655,360.
+    pub fn number_limit(&self) -> u32
+        ensures below { (number : ℕ) → IsNumber self.now.items number → number < result }
+        ensures most { result ≤ 655360 }
+    {
+        self.items.soundness();
+        self.items.given_count() as u32
+    }
+
     /// The node of an id, in one step.
     pub fn node<L: Ledger>(&self, id: u32, steps: &mut Steps<L>) -> &Node
         requires { IsTrue (has_id self.now.contents id) }

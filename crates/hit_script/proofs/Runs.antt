@@ -5,9 +5,6 @@ use Rattle.hit_script.specs.Lines.{lines, whole_lines, unfinished}
 use Rattle.hit_script.specs.Script.{Scene, answer_to, replies_from, scene_behind}
 use Rattle.hit_script.proofs.LineLaws.{whole_and_unfinished, whole_lines_more, lines_behind_whole, no_lines}
 
-nat_apart : {n : ℕ} → suc n ≡ 0 → ⊥
-nat_apart e = omega arith
-
 pub replies_from-append : (scene : Scene) (xs ys : List (List ℕ)) → replies_from scene (xs ++ ys) ≡ replies_from scene xs ++ replies_from (scene_behind scene xs) ys
 replies_from-append scene [] ys = refl
 replies_from-append scene (x ∷ xs) ys = rw (replies_from-append (answer_to scene x).scene xs ys) (sym (append_assoc (answer_to scene x).reply _ _))

@@ -86,7 +86,7 @@ pub trait Desk {
 
 /// The engine, which tells its page and no log.
 impl Desk for Engine {
-    ghost page = { λ engine. Some engine };
+    ghost page = { λ engine. Some engine.contents };
 
     ghost log = { λ _. None };
 

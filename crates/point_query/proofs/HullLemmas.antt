@@ -1,9 +1,9 @@
 -- The bounds of a rectangle in a space hold each point whose local point lies in the rectangle. The exact preimage of the point
 -- lies in the closed rectangle, since the edges are whole units; so its image, which is the point, lies in the hull.
 use Rattle.std.proofs.Common.{ℕ, zero, suc, ◌≡◌, ℤ, pos, negsuc, ◌+ℤ◌, ◌*ℤ◌, ◌<ℤ◌, ◌≤ℤ◌, neg_ℤ, Some, arith, ap, ◌∙◌, sym, subst}
-use Rattle.std.proofs.lemmas.Int.{ints, clamps, by_lt_z}
+use Rattle.std.proofs.lemmas.Int.{ints, clamps}
 use Rattle.std.specs.Int.{int_max, int_min}
-use Rattle.whole_numbers.proofs.Products.{mul_assoc, mul-neg, le-mul, lt-mul, mul-positive}
+use Rattle.whole_numbers.proofs.Products.{mul_assoc, mul-neg, le-mul, lt-mul, at_least_zero, le-cancel, lt-cancel, mul-positive}
 use Rattle.fractions.specs.declared.rect.Rect.{Rect}
 use Rattle.fractions.specs.Rect.{Holds}
 use Rattle.fractions.specs.Division.{IsFloor}
@@ -20,16 +20,6 @@ pub record HoldsFine (r : Rect) (x y : ℤ) : Type 0 where
   pub right : x <ℤ (pos 64 *ℤ r.r)
   pub top : (pos 64 *ℤ r.t) ≤ℤ y
   pub bottom : y <ℤ (pos 64 *ℤ r.b)
-
-at_least_zero : (z : ℤ) → pos 0 <ℤ z → pos 0 ≤ℤ z
-at_least_zero z h = omega (arith, ints)
-
--- a positive factor may be left out of both sides of an order
-le-cancel : (j l w : ℤ) → pos 0 <ℤ w → (j *ℤ w) ≤ℤ (l *ℤ w) → j ≤ℤ l
-le-cancel j l w positive h = by_lt_z l j (λ lt. absurd (omega (arith, ints, h, lt-mul l j w positive lt))) (λ le. le)
-
-lt-cancel : (j l w : ℤ) → pos 0 <ℤ w → (j *ℤ w) <ℤ (l *ℤ w) → j <ℤ l
-lt-cancel j l w positive h = by_lt_z j l (λ lt. lt) (λ le. absurd (omega (arith, ints, h, le-mul l j w (at_least_zero w positive) le)))
 
 times_one : (z : ℤ) → z *ℤ pos 1 ≡ z
 times_one z = omega (arith, ints)

@@ -16,8 +16,8 @@ pub fn chain<L: Ledger>(
     id: u32,
     steps: &mut Steps<L>,
 ) -> Result<Vec<u32>, OutOfMemory>
-    requires { IsTrue (has_id engine.now id) }
-    ensures chain { IfOk result (λ ids. ids.items ≡ chain_of engine.now id) }
+    requires { IsTrue (has_id engine.now.contents id) }
+    ensures chain { IfOk result (λ ids. ids.items ≡ chain_of engine.now.contents id) }
     ensures short { IfOk result (λ ids. length ids.items ≤ 256) }
 {
     chain_in(alloc, engine.page(), id, steps)

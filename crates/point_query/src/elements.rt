@@ -26,7 +26,7 @@ pub fn hit<L: Ledger>(
 ) -> Result<Vec<u32>, OutOfMemory>
     requires x { IsWithin 26 x }
     requires y { IsWithin 26 y }
-    ensures { IfOk result (λ ids. ids.items ≡ elements_from_point engine.now x y) }
+    ensures { IfOk result (λ ids. ids.items ≡ elements_from_point engine.now.contents x y) }
 {
     let page = engine.page();
     let viewport = page.viewport();
@@ -59,8 +59,8 @@ pub fn top<L: Ledger>(
 ) -> Result<Option<u32>, OutOfMemory>
     requires x { IsWithin 26 x }
     requires y { IsWithin 26 y }
-    ensures first { IfOk result (λ id. id ≡ element_from_point engine.now x y) }
-    ensures none { IfOk result (λ id. IsNone id ↔ ((is_inside engine.now.viewport x y ≡ false) ⊎ (roots_of engine.now.tree ≡ []))) }
+    ensures first { IfOk result (λ id. id ≡ element_from_point engine.now.contents x y) }
+    ensures none { IfOk result (λ id. IsNone id ↔ ((is_inside engine.now.contents.viewport x y ≡ false) ⊎ (roots_of engine.now.contents.tree ≡ []))) }
 {
     let ids = hit(alloc, engine, x, y, steps)?;
     Ok(ids.first().copied())

@@ -1,4 +1,3 @@
 pub mod PressLemmas
-pub mod InputLemmas
 pub mod ClickLemmas
 pub mod HolderLemmas

@@ -69,14 +69,6 @@ borders-within n all = record {
   left = length-at n.style.border 3 all;
 }
 
-pub radii-within : (n : Label) → All (IsSide 20) n.style.radii → AreRadiiWithin (2 ^ 20) (declared_radii n)
-radii-within n all = record {
-  top_left = record { x = length-at n.style.radii 0 all; y = length-at n.style.radii 1 all };
-  top_right = record { x = length-at n.style.radii 2 all; y = length-at n.style.radii 3 all };
-  bottom_right = record { x = length-at n.style.radii 4 all; y = length-at n.style.radii 5 all };
-  bottom_left = record { x = length-at n.style.radii 6 all; y = length-at n.style.radii 7 all };
-}
-
 -- the width of a border as a number of 64 bits
 pub width-fits : (x width : ℤ) → x ≡ width → IsSide 20 width → IsLengthWithin (2 ^ 20) (to_z w64 (of_z w64 x))
 width-fits x width is side = let fits = side-fits x width is side in record { at_least = fits.0; at_most = fits.1 }

@@ -149,10 +149,6 @@ module _ (page : Contents) (valid : IsValid page) (id : ℕ) (node : Node) (seen
       once : occurrences tree x ≤ 1
       once = omega (arith, occurrences-parted page.tree [] id x (valid.distinct id), ap (λ (f : Forest). occurrences f x) tree-is, valid.distinct x)
 
--- above the root nothing holds
-pub place-outermost : (page : Contents) (id : ℕ) (wanted : Wanted) → has_id page id ≡ false → Some (outer_space page.viewport (outermost wanted)) ≡ place_among page.viewport wanted (ancestors_below page id)
-place-outermost page id wanted absent = sym (ap (place_among page.viewport wanted) (ancestors_below-absent page id absent))
-
 -- the ids of entries were given
 pub entry-given : (page : Contents) → IsValid page → (id : ℕ) → IsSome (entry_of page id) → id < page.next
 entry-given page valid id some = by_place (placed_of page id) refl some

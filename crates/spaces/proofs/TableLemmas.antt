@@ -28,12 +28,6 @@ under-longer [] n id = under-none n id
 under-longer (entry ∷ table) n zero = refl
 under-longer (entry ∷ table) n (suc id) = under-longer table n id
 
--- an id past the end
-pub under-past : (table : List (Option Entry)) (id : ℕ) → length table ≤ id → entry_under table id ≡ None
-under-past [] id past = refl
-under-past (entry ∷ table) zero past = absurd (omega arith)
-under-past (entry ∷ table) (suc id) past = under-past table id (omega arith)
-
 -- an entry in its slot
 pub under-set : (table : List (Option Entry)) (id x : ℕ) (entry : Option Entry) → id < length table → entry_under (set table id entry) x ≡ (if id == x then entry else entry_under table x)
 under-set table id x entry within = elim (cases_eq id x) [

@@ -82,10 +82,3 @@ module _ (n : Label) where
       sym (then-beyond space map (test-beyond map is.1.1))
       ∙ sym (ap (λ b. checked_products space (factor_as b off)) is.0 ∙ ap (λ b. checked_products space (factor_as true b)) is.1.0)
 
-  pub disables-none : makes_viewport n.kind ≡ false → false ≡ disables n
-  disables-none makes = sym (ap (λ b. b && off) makes)
-
-  pub disables-some : (view : ViewMap) → IsViewOf n (Some view) → says_disabled view ≡ disables n
-  disables-some Disabled is = sym (ap (λ b. b && off) is.0 ∙ is.1)
-  disables-some (Given m) is = sym (ap (λ b. b && off) is.0 ∙ is.1.0)
-  disables-some Beyond is = sym (ap (λ b. b && off) is.0 ∙ is.1.0)

@@ -137,12 +137,6 @@ module _ (page : Contents) (valid : IsValid page) (id : ℕ) (node : Node) (seen
       and-true true = refl
       and-true false = refl
 
-  -- where the node itself passes the bound
-  pub beyond-start : is_bounded_by page id ≡ false → is_bounded_from page id ≡ false
-  beyond-start own =
-      ap (λ (o : Option Placed). option_map_or (λ p. are_bounded page.viewport p.above (Grow p.label p.below End)) o true) found
-      ∙ ap (λ (b : Bool). b && (are_bounded page.viewport (here.label ∷ here.above) here.below && true)) (sym (ap (λ (o : Option Placed). option_map_or (λ p. is_bounded_at page.viewport (standing_at p)) o true) found) ∙ own)
-
   pub count-start : 1 + node_count (children 0) ≡ node_count (tree_of page id)
   count-start = rw (below_of-seen page valid id node seen, tree_of-seen page valid id node seen) (omega arith)
 

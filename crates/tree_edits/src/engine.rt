@@ -2,6 +2,7 @@ ghost use Rattle.std.specs.Prelude.{◌≡◌, ◌≢◌, ◌≤ℤ◌, ◌^◌,
 ghost use Rattle.box_tree.specs.declared.edit.EditFault.TheVariants.{OutOfMemory as MemoryFault};
 ghost use Rattle.box_tree.specs.Contents.{empty_page};
 ghost use Rattle.box_tree.specs.Edited.{IsInRange, edited, answer_of};
+ghost use Rattle.box_tree.specs.Numbers.{KeepsNumbers, GivesFreshNumbers, HasSameItems};
 ghost use Rattle.spaces.specs.Bound.{is_bounded};
 ghost use Rattle.spaces.specs.Table.{IsTableOf};
 ghost use Rattle.tree_edits.specs.Edits.{first_fault, fault_of};
@@ -32,8 +33,8 @@ impl<T: Drop> From<AllocFailed<T>> for OutOfMemory {
     }
 }
 
-/// A page that is edited and queried, which clauses see as its contents, with the table of its spaces. No partial product of
-/// any of its nodes passes the bound on maps.
+/// A page that is edited and queried, which clauses see as its contents and the numbers of its items, with the table of its
+/// spaces. No partial product of any of its nodes passes the bound on maps.
 #[derive(Drop)]
 pub struct Engine {
     page: Page,
@@ -43,15 +44,15 @@ pub struct Engine {
 
 impl Model for Engine {
     ghost use Rattle.std.specs.Coded.{Coded, codes};
-    ghost use Rattle.box_tree.specs.Contents.{Contents};
     ghost use Rattle.box_tree.specs.Forest.{Label};
     ghost use Rattle.box_tree.specs.ForestCode.{forest_code};
+    ghost use Rattle.tree_edits.specs.EngineState.{EngineState};
 
-    ghost Value = { Contents };
+    ghost Value = { EngineState };
 
     ghost coded = { let label : Coded Label = Prim.hlevel codes in Prim.hlevel (codes, forest_code label) };
 
-    ghost view = { λ e. e.page.contents };
+    ghost view = { λ e. record { contents = e.page.contents; items = e.page.items } };
 
     ghost use Rattle.tree_edits.specs.Faithful.{IsFaithful};
 
@@ -63,7 +64,7 @@ impl Engine {
     pub fn new(alloc: Global, w: i64, h: i64) -> Result<Engine, OutOfMemory>
         requires width { (pos 1 ≤ℤ w) × (w ≤ℤ pos (2 ^ 20)) }
         requires height { (pos 1 ≤ℤ h) × (h ≤ℤ pos (2 ^ 20)) }
-        ensures { IfOk result (λ engine. engine ≡ empty_page w h) }
+        ensures { IfOk result (λ engine. engine.contents ≡ empty_page w h) }
     {
         frame_table();
         Ok(Engine {
@@ -78,11 +79,14 @@ impl Engine {
     /// place of any other answer.
     pub fn edit<L: Ledger>(&mut self, edit: &Edit, steps: &mut Steps<L>) -> Result<Done, EditFault>
         requires { IsInRange edit.now }
-        ensures faultless { OnOk result (first_fault self.old edit.now ≡ None) }
-        ensures edited { OnOk result (self.new ≡ edited self.old edit.now) }
-        ensures answer { IfOk result (λ done. done ≡ answer_of self.old edit.now) }
-        ensures first_fault { IfErr result (λ why. why ≢ MemoryFault → first_fault self.old edit.now ≡ Some why) }
-        ensures unchanged { OnErr result (self.new ≡ self.old) }
+        ensures faultless { OnOk result (first_fault self.old.contents edit.now ≡ None) }
+        ensures edited { OnOk result (self.new.contents ≡ edited self.old.contents edit.now) }
+        ensures answer { IfOk result (λ done. done ≡ answer_of self.old.contents edit.now) }
+        ensures numbers_kept { OnOk result (KeepsNumbers self.old.items self.new.items self.new.contents) }
+        ensures numbers_fresh { OnOk result (GivesFreshNumbers self.old.items self.new.items) }
+        ensures first_fault { IfErr result (λ why. why ≢ MemoryFault → first_fault self.old.contents edit.now ≡ Some why) }
+        ensures unchanged { OnErr result (self.new.contents ≡ self.old.contents) }
+        ensures same_items { OnErr result (HasSameItems self.old.items self.new.items) }
     {
         frame_table();
         frame_bound();
@@ -106,7 +110,8 @@ impl Engine {
 
     /// The page as it stands.
     pub fn page(&self) -> &Page
-        ensures contents { result.now.contents ≡ self.now }
+        ensures contents { result.now.contents ≡ self.now.contents }
+        ensures items { result.now.items ≡ self.now.items }
         ensures bounded { IsTrue (is_bounded result.now.contents) }
     {
         &self.page
@@ -114,7 +119,7 @@ impl Engine {
 
     /// The space of each node of the page as it stands, and the values that it inherits.
     pub fn spaces(&self) -> &SpaceTable
-        ensures { IsTableOf result.now self.now }
+        ensures { IsTableOf result.now self.now.contents }
     {
         &self.spaces
     }

@@ -2,7 +2,7 @@
 use Rattle.std.proofs.Common.{◌+◌, ◌*◌, ◌≡◌, ℤ, ◌+ℤ◌, ◌-ℤ◌, ◌*ℤ◌, neg_ℤ, zero, suc, pos, negsuc, ◌<ℤ◌, ◌≤ℤ◌, arith, refl, ap, ◌∙◌, sym}
 use borrow.Author.Differences.{up, down, same_in, sum_is_lem, neg_is, product_is, le_out, lt_out}
 use Rattle.std.proofs.Math.Nat.{mul-le-mul_right}
-use Rattle.std.proofs.lemmas.Int.{ints}
+use Rattle.std.proofs.lemmas.Int.{ints, by_lt_z}
 use Rattle.std.proofs.Math.IntN.{*ℤ_comm, zero-*ℤ}
 
 -- the two parts of a product, of which the number is the difference
@@ -67,6 +67,16 @@ pub lt-mul : (p q w : ℤ) → pos 0 <ℤ w → p <ℤ q → (p *ℤ w) <ℤ (q 
 lt-mul p q (pos zero) positive h = absurd (omega (arith, ints))
 lt-mul p q (pos (suc w)) positive h = omega (arith, ints, mul-le-mul_right (suc w) (lt_out p q h))
 lt-mul p q (negsuc w) positive h = absurd (omega (arith, ints))
+
+pub at_least_zero : (z : ℤ) → pos 0 <ℤ z → pos 0 ≤ℤ z
+at_least_zero z h = omega (arith, ints)
+
+-- a positive factor may be left out of both sides of an order
+pub le-cancel : (j l w : ℤ) → pos 0 <ℤ w → (j *ℤ w) ≤ℤ (l *ℤ w) → j ≤ℤ l
+le-cancel j l w positive h = by_lt_z l j (λ lt. absurd (omega (arith, ints, h, lt-mul l j w positive lt))) (λ le. le)
+
+pub lt-cancel : (j l w : ℤ) → pos 0 <ℤ w → (j *ℤ w) <ℤ (l *ℤ w) → j <ℤ l
+lt-cancel j l w positive h = by_lt_z j l (λ lt. lt) (λ le. absurd (omega (arith, ints, h, le-mul l j w (at_least_zero w positive) le)))
 
 -- the sign of a product with a positive number
 pub mul-positive : (a b : ℤ) → pos 0 <ℤ a → pos 0 <ℤ b → pos 0 <ℤ (a *ℤ b)
