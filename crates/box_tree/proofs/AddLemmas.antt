@@ -164,7 +164,6 @@ module _ (page : Contents) (valid : IsValid page) (parent at : ℕ) (kind : Kind
   -- nodes that are looked up as those of the page, with the new one, which is a child of its parent
   module _ (look new : ℕ → Option Node) (looked_up : (k : ℕ) → look k ≡ node_of page k)
       (known : (k : ℕ) → new k ≡ (if page.next == k then Some added_node else changed_at parent (with_child_at at page.next) k (look k))) where
-
     -- as the root
     pub kept-root : parent ≡ 0 → IsKept new (Some page.next) (record page { tree = single label End; next = page.next + 1 })
     kept-root none_named = record {

@@ -350,4 +350,3 @@ puts_more old now new gone all rest node so all_is puts count room ids_same = re
             or-nothing : (p : Option Node) → option_or p None ≡ p
             or-nothing None = refl
             or-nothing (Some n) = refl
-

@@ -362,4 +362,3 @@ pub record HasSameLists (old new : Vec (SmallVec ℕ) Global) (count : ℕ) : Ty
   pub lists : (x : ℕ) → get_or (lists_in new.items) x [] ≡ get_or (lists_in old.items) x []
   pub sums : (f : List ℕ → ℕ) → f [] ≡ 0 → sum_by f (lists_in new.items) ≡ sum_by f (lists_in old.items)
   pub len : vec_len new ≡ count
-

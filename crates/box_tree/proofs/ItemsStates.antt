@@ -28,4 +28,3 @@ state_lists given free lists lists' is = ap (λ (ls : List (List ℕ)). let stat
 -- what stands in a list or is free was given
 pub once_in : (s : ItemsState) (id : ℕ) (list : List ℕ) → AreSound s → list ≡ numbers_of s id → (k : ℕ) → times_in k list + times_in k s.free ≤ once_below k s.given
 once_in s id list sound is k = omega (arith, ap (times_in k) is, times-in_lists k id s.lists, sound.each_once k)
-

@@ -81,4 +81,3 @@ module _ (n : Label) where
   viewed-some space Beyond is =
       sym (then-beyond space map (test-beyond map is.1.1))
       ∙ sym (ap (λ b. checked_products space (factor_as b off)) is.0 ∙ ap (λ b. checked_products space (factor_as true b)) is.1.0)
-
