@@ -5,16 +5,16 @@ use Rattle.std.specs.List.{filter, flat_map}
 use Rattle.std.specs.Option.{option_map_or}
 use Rattle.std.proofs.lemmas.List.{map-append}
 use Rattle.box_tree.specs.declared.kind.Kind.{Kind}
-use Rattle.box_tree.specs.declared.kind.Kind.TheVariants.{Block, Inline, InlineBlock, Image, Svg, Text, Map, Area, Group, Shape, Inner}
+use Rattle.box_tree.specs.declared.kind.Kind.TheVariants.{Image, Svg}
 use Rattle.box_tree.specs.declared.node.Node.{Node}
 use Rattle.box_tree.specs.declared.item.Item.{Item}
 use Rattle.box_tree.specs.Forest.{Label, Placed}
 use Rattle.box_tree.specs.Contents.{Contents, node_of, placed_of, ancestors_of, IsValid}
 use Rattle.box_tree.specs.Kept.{label_of}
 use Rattle.box_tree.specs.Containing.{parent_of}
-use Rattle.stacking.specs.Painting.{at, has_head, is_inline, is_replaced_kind, box_items, own, content_item, content_as, content, head, own_pieces, shares_in, reach, blocks, floats, pieces, context_members, is_on_lower_level, is_on_lower_line, painted_piece, painted_member, lines, flat, body, layer, ContextEntry, OneItem, listed_member, entries}
+use Rattle.stacking.specs.Painting.{at, has_head, is_inline, is_replaced_kind, box_items, own, content_item, content, head, own_pieces, shares_in, reach, blocks, floats, pieces, context_members, is_on_lower_level, is_on_lower_line, painted_piece, painted_member, lines, flat, body, layer, ContextEntry, OneItem, listed_member, entries}
 use Rattle.stacking.specs.Sorting.{sorted_by}
-use Rattle.stacking.specs.OnPage.{of_node, ids_of, gathered_in, gathered, part_of, line_parts, line_pieces, member_of, members_of, outlines_of, on_side}
+use Rattle.stacking.specs.OnPage.{of_node, ids_of, gathered_in, gathered, part_of, line_parts, line_pieces, member_of, members_of, on_side}
 use Rattle.stacking.specs.declared.layer.Side.{Side}
 use Rattle.stacking.specs.declared.layer.Side.TheVariants as side
 use Rattle.stacking.proofs.ListLemmas.{map-flat_map}

@@ -1,6 +1,6 @@
 -- What a forest of lists asks of the lists of a page: each but that of the root stands in one, and no number stands twice.
 use Rattle.std.proofs.Common.{◌≡◌, ◌≢◌, ◌⊎◌, ℕ, suc, ◌<◌, ◌≤◌, ◌==◌, List, [], ◌∷◌, ◌++◌, length, Option, Some, None, IsSome, is_some, slice_get, Bool, true, false, refl, sym, ap, ◌∙◌, subst, inl, inr, arith, get_or}
-use Rattle.std.specs.Prelude.{if◌then◌else◌, ◌&&◌, Contains, All}
+use Rattle.std.specs.Prelude.{if◌then◌else◌, ◌&&◌, Contains, All, map}
 use Rattle.std.specs.List.{list_any}
 use Rattle.std.specs.Option.{option_map}
 use Rattle.std.proofs.lemmas.Bool.{cases_lt, false≢true}
@@ -14,11 +14,12 @@ use Rattle.box_tree.specs.Contents.{Contents, node_at, placed_of, IsValid, IsGiv
 use Rattle.box_tree.specs.Containing.{makes_context}
 use Rattle.box_tree.specs.Edited.{is_root}
 use Rattle.box_tree.specs.Items.{items_of, items_at, node_items}
-use Rattle.box_tree.specs.Numbers.{ItemsState, Names, IsItem, IsNumberedPage}
+use Rattle.box_tree.specs.Numbers.{ItemsState, Names, IsNumber, IsItem, IsNumberedPage, KeepsNumbers}
 use Rattle.box_tree.proofs.NumberedPages.{are_placed}
 use Rattle.box_tree.proofs.PlacedLemmas.{AreAtPlaces, page-at_places, id-placed_in}
 use Rattle.box_tree.proofs.MoveLemmas.{each-placed}
 use Rattle.paint_order.specs.declared.entry.Entry.{Entry}
+use Rattle.paint_order.specs.declared.entry.Entry.TheVariants as entry
 use Rattle.paint_order.specs.Lists.{Lists, list_under, entries_of, StandsAt, AreDistinct, StandNowhereElse, IsInRoom}
 use Rattle.paint_order.specs.Order.{IsWhole}
 use Rattle.stacking.specs.Painting.{own, drawn, ContextEntry, OneItem, SubContext, entries}
@@ -26,6 +27,7 @@ use Rattle.stacking.specs.OnPage.{of_node}
 use Rattle.stacking.specs.Contexts.{context_of}
 use Rattle.stacking.specs.Counting.{count, items_in, is_part, is_item}
 use Rattle.stacking.specs.Lists.{number_of, numbered, kept_list, AreListsOf, HasOnlyListsOf, IsListedAt}
+use Rattle.stacking.specs.Frame.{KeepsList}
 use Rattle.stacking.proofs.CountLemmas.{count-append, all_items_are_painted}
 use Rattle.stacking.proofs.WeightLemmas.{weighs}
 use Rattle.stacking.proofs.EntryLemmas.{item_weight, weight-itself, one-list, root-lists, list_at, at_place, same_context, same_place}
@@ -153,21 +155,37 @@ module _ (page : Contents) (valid : IsValid page) (items : ItemsState) (are_numb
           let is' = kept_at kept l k is_list.0 (sym (ap (λ (es : List Entry). slice_get es k) is_list.1) ∙ at') in
           sym (same_context page valid is.listed context l j k is.at (kept-same kept context l j k is is'))
 
-  -- the numbers are in the room that a page can want
-  in_room : (listed : ContextEntry) (context k : ℕ) → IsListedAt page listed context k → IsInRoom 655360 page.next (numbered items listed)
-  in_room (OneItem item) context k is =
+  -- the numbers are below a limit that all of the page are below
+  in_room : (limit : ℕ) → ((number : ℕ) → IsNumber items number → number < limit) → (listed : ContextEntry) (context k : ℕ) → IsListedAt page listed context k → IsInRoom limit page.next (numbered items listed)
+  in_room limit below (OneItem item) context k is =
       let has = are_numbered.each item (listed-item page valid item context k is) in
-      subst (λ (n : ℕ). n < 655360) (sym has.1.number_is) (are_numbered.below has.0 item has.1)
-  in_room (SubContext id) context k is =
+      subst (λ (n : ℕ). n < limit) (sym has.1.number_is) (below has.0 (item, has.1))
+  in_room limit below (SubContext id) context k is =
       let c = context_at page id (sub-real page valid id context k is) in
       let given = (each-placed (IsGiven page.next) page.tree [] id c.place valid.given c.found).0 in
       subst (λ (i : ℕ). i < page.next) (id-placed_in page.tree [] id c.place c.found) given.below_next
 
-  pub all-in_room : (context : ℕ) → makes_context page context ≡ true → All (IsInRoom 655360 page.next) (kept_list items page context)
-  all-in_room context real = λ k none within.
+  pub all-in_room : (limit context : ℕ) → ((number : ℕ) → IsNumber items number → number < limit) → makes_context page context ≡ true → All (IsInRoom limit page.next) (kept_list items page context)
+  all-in_room limit context below real = λ k none within.
       let kept = kept_list items page context in
       let is = kept_at (get_or kept k none) context k real (slice_get-get_or kept k none within) in
-      subst (IsInRoom 655360 page.next) is.number_is (in_room is.listed context k is.at)
+      subst (IsInRoom limit page.next) is.number_is (in_room limit below is.listed context k is.at)
+
+-- what is the same for each element of a list is the same for the list
+map-same : {A B : Type 0} (f g : A → B) (xs : List A) → ((k : ℕ) (x : A) → slice_get xs k ≡ Some x → f x ≡ g x) → map f xs ≡ map g xs
+map-same f g [] same = refl
+map-same f g (x ∷ xs) same = ap (λ y. y ∷ map f xs) (same 0 x refl) ∙ ap (λ ys. g x ∷ ys) (map-same f g xs (λ k y is. same (suc k) y is))
+
+-- a list that stays has the numbers that it had
+pub lists-keep_numbers : (page after : Contents) (items items' : ItemsState) (id : ℕ) → IsValid page → IsValid after → IsNumberedPage page items → KeepsNumbers items items' after → makes_context page id ≡ true → KeepsList page after id → kept_list items' after id ≡ kept_list items page id
+lists-keep_numbers page after items items' id valid valid' are_numbered keeps real stays = ap (map (numbered items')) stays.listed ∙ map-same (numbered items') (numbered items) (of_node entries page id) same
+  where
+    same : (k : ℕ) (listed : ContextEntry) → slice_get (of_node entries page id) k ≡ Some listed → numbered items' listed ≡ numbered items listed
+    same k (OneItem item) stands =
+        let has = are_numbered.each item (listed-item page valid item id k (record { is_context = real; stands = stands })) in
+        let there = listed-item after valid' item id k (record { is_context = stays.context; stands = ap (λ es. slice_get es k) stays.listed ∙ stands }) in
+        ap entry.Item ((keeps has.0 item has.1 there).number_is ∙ sym has.1.number_is)
+    same k (SubContext other) stands = refl
 
 -- a table of all lists of a page
 module _ (page : Contents) (valid : IsValid page) (items : ItemsState) (lists : Lists) (are : AreListsOf lists page items) where

@@ -1,17 +1,17 @@
 //! The rules of the painting order as sentences, each the contract of a function without a body.
-ghost use Rattle.std.specs.Prelude.{◌≡◌, ℕ, map, Some, None, IsTrue, IsFalse};
+ghost use Rattle.std.specs.Prelude.{◌≡◌, ◌<◌, ℕ, map, Some, None, IsTrue, IsFalse};
 ghost use Rattle.std.specs.List.{All};
 ghost use Rattle.box_tree.specs.declared.edit.Edit.{Edit};
 ghost use Rattle.box_tree.specs.Contents.{Contents, IsValid};
 ghost use Rattle.box_tree.specs.Containing.{makes_context};
 ghost use Rattle.box_tree.specs.Edited.{is_root, edited};
-ghost use Rattle.box_tree.specs.Numbers.{ItemsState, IsNumberedPage};
+ghost use Rattle.box_tree.specs.Numbers.{ItemsState, IsNumber, IsNumberedPage, KeepsNumbers};
 ghost use Rattle.paint_order.specs.Lists.{Lists, IsInRoom, AreDistinct, StandNowhereElse};
 ghost use Rattle.paint_order.specs.Order.{flattened, IsWhole, NestWithin};
 ghost use Rattle.stacking.specs.Contexts.{context_of};
 ghost use Rattle.stacking.specs.Counting.{AllItemsArePainted, EachItemIsPaintedOnce};
 ghost use Rattle.box_tree.specs.Frame.{edited_node, IsFaultless};
-ghost use Rattle.stacking.specs.Frame.{is_next_to};
+ghost use Rattle.stacking.specs.Frame.{is_next_to, KeepsList};
 ghost use Rattle.stacking.specs.Lists.{number_of, AreListsOf, IsListedAt, numbered, HasOnlyListsOf, kept_list};
 ghost use Rattle.stacking.specs.OnPage.{of_node};
 ghost use Rattle.stacking.specs.Painting.{ContextEntry, SubContext, entries, layer};
@@ -86,11 +86,17 @@ pub fn lists_are_whole()
 
 /// What a forest of lists asks of a list that is put holds of the list of a real stacking context, where the page is valid and
 /// its items are numbered: no entry comes twice, none stands under another number, if the table has lists of the page alone,
-/// items have numbers below 655,360, and stacking contexts ids below the next id of the page.
+/// items have numbers below a limit that all numbers of the page are below, and stacking contexts ids below the next id.
 pub fn lists_may_be_put()
     ensures distinct { (page : Contents) (items : ItemsState) (context : ℕ) → IsValid page → IsNumberedPage page items → IsTrue (makes_context page context) → AreDistinct (kept_list items page context) }
     ensures nowhere_else { (page : Contents) (items : ItemsState) (lists : Lists) (context : ℕ) → IsValid page → IsNumberedPage page items → IsTrue (makes_context page context) → HasOnlyListsOf lists page items →
         StandNowhereElse lists context (kept_list items page context) }
-    ensures in_room { (page : Contents) (items : ItemsState) (context : ℕ) → IsValid page → IsNumberedPage page items → IsTrue (makes_context page context) →
-        All (IsInRoom 655360 page.next) (kept_list items page context) }
+    ensures in_room { (page : Contents) (items : ItemsState) (limit context : ℕ) → IsValid page → IsNumberedPage page items → ((number : ℕ) → IsNumber items number → number < limit) → IsTrue (makes_context page context) →
+        All (IsInRoom limit page.next) (kept_list items page context) }
+{}
+
+/// A list that an edit leaves is kept with the numbers that it had, where the items that stay keep theirs.
+pub fn lists_keep_numbers()
+    ensures { (page after : Contents) (items items' : ItemsState) (id : ℕ) → IsValid page → IsValid after → IsNumberedPage page items → KeepsNumbers items items' after → IsTrue (makes_context page id) → KeepsList page after id →
+        kept_list items' after id ≡ kept_list items page id }
 {}

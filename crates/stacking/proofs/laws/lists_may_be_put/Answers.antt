@@ -7,5 +7,5 @@ pub returns : goal.returns
 returns c = record {
   distinct = λ page items context valid are real. lists-distinct page valid items are context real;
   nowhere_else = λ page items lists context valid are real only. nowhere-else page valid items are lists only context real;
-  in_room = λ page items context valid are real. all-in_room page valid items are context real;
+  in_room = λ page items limit context valid are below real. all-in_room page valid items are limit context below real;
 }
