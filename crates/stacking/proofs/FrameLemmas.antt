@@ -37,7 +37,7 @@ alike-without x (Grow n below others) hidden =
     (refl, ((λ plain. alike-without x below (hidden.1.0 plain)), alike-without x others hidden.1.1))
 
 -- what is found in trees stands there
-stands : (f : Forest) (above : List Label) (x : ℕ) (q : Placed) → placed_in above f x ≡ Some q → 0 < occurrences f x
+pub stands : (f : Forest) (above : List Label) (x : ℕ) (q : Placed) → placed_in above f x ≡ Some q → 0 < occurrences f x
 stands f above x q found = elim (cases_lt 0 (occurrences f x)) [
   | inl some ↦ some
   | inr few ↦ absurd (false≢true (ap is_some (sym (placed_in-absent f above x (omega (arith, few))) ∙ found)))
@@ -80,13 +80,13 @@ pub record IsElsewhere (p q : Placed) : Type 0 where
   pub same : IsSame p q
   pub below : p.below ≡ q.below
 
-abbrev AreElsewhere : Option Placed → Option Placed → Type 0
+abbrev pub AreElsewhere : Option Placed → Option Placed → Type 0
 AreElsewhere None None = Unit {0}
 AreElsewhere None (Some q) = ⊥
 AreElsewhere (Some p) None = ⊥
 AreElsewhere (Some p) (Some q) = IsElsewhere p q
 
-elsewhere : (f : Forest) (a b : Label) (above above' : List Label) (id : ℕ) → AreElsewhere (placed_in (a ∷ above) f id) (placed_in (b ∷ above') f id)
+pub elsewhere : (f : Forest) (a b : Label) (above above' : List Label) (id : ℕ) → AreElsewhere (placed_in (a ∷ above) f id) (placed_in (b ∷ above') f id)
 elsewhere End a b above above' id = tt
 elsewhere (Grow n below others) a b above above' id =
     by_parts (n.id == id) (placed_in (n ∷ (a ∷ above)) below id) (placed_in (a ∷ above) others id) (placed_in (n ∷ (b ∷ above')) below id) (placed_in (b ∷ above') others id) (elsewhere below n n (a ∷ above) (b ∷ above') id) (elsewhere others a b above above' id)
@@ -109,7 +109,7 @@ module _ (page after : Contents) (x : ℕ) (keeps : KeepsTrees page after x) (id
   rest = taken_out x page.tree
 
   -- its place in the trees without the changed node
-  place-rest : 0 < occurrences rest id → (placed_in [] rest id ≡ option_map (place_without x) (placed_of page id)) × (placed_in [] rest id ≡ option_map (place_without x) (placed_of after id))
+  pub place-rest : 0 < occurrences rest id → (placed_in [] rest id ≡ option_map (place_without x) (placed_of page id)) × (placed_in [] rest id ≡ option_map (place_without x) (placed_of after id))
   place-rest some = (
     placed_in-taken_out page.tree [] x id (keeps.distinct id) some,
     ap (λ (f : Forest). placed_in [] f id) (sym keeps.rest) ∙ placed_in-taken_out after.tree [] x id (keeps.distinct_after id) (subst (λ (f : Forest). 0 < occurrences f id) (sym keeps.rest) some),
@@ -131,12 +131,12 @@ module _ (page after : Contents) (x : ℕ) (keeps : KeepsTrees page after x) (id
         }
 
 -- a node that stands among the trees and not among those without another one is below that
-record IsBelow (page : Contents) (x id : ℕ) : Type 0 where
-  place : Placed
-  found : placed_of page x ≡ Some place
-  some : 0 < occurrences place.below id
+pub record IsBelow (page : Contents) (x id : ℕ) : Type 0 where
+  pub place : Placed
+  pub found : placed_of page x ≡ Some place
+  pub some : 0 < occurrences place.below id
 
-is_below : (page : Contents) (x id : ℕ) → ((k : ℕ) → occurrences page.tree k ≤ 1) → id ≢ x → 0 < occurrences page.tree id → occurrences (taken_out x page.tree) id ≡ 0 → IsBelow page x id
+pub is_below : (page : Contents) (x id : ℕ) → ((k : ℕ) → occurrences page.tree k ≤ 1) → id ≢ x → 0 < occurrences page.tree id → occurrences (taken_out x page.tree) id ≡ 0 → IsBelow page x id
 is_below page x id distinct other some none =
     by_place (placed_of page x) refl (omega (arith, some, none, occurrences-parted page.tree [] x id (distinct x)))
   where

@@ -16,6 +16,7 @@ pub mod AlikeLemmas
 pub mod RestLemmas
 pub mod FrameLemmas
 pub mod TouchedLemmas
+pub mod MadeLemmas
 pub mod MemberLemmas
 pub mod NestLemmas
 pub mod WeightLemmas

@@ -2,7 +2,7 @@
 ghost use Rattle.std.specs.Prelude.{◌≡◌, ◌<◌, ℕ, map, Some, None, IsTrue, IsFalse};
 ghost use Rattle.std.specs.List.{All};
 ghost use Rattle.box_tree.specs.declared.edit.Edit.{Edit};
-ghost use Rattle.box_tree.specs.Contents.{Contents, IsValid};
+ghost use Rattle.box_tree.specs.Contents.{Contents, has_id, IsValid};
 ghost use Rattle.box_tree.specs.Containing.{makes_context};
 ghost use Rattle.box_tree.specs.Edited.{is_root, edited};
 ghost use Rattle.box_tree.specs.Numbers.{ItemsState, IsNumber, IsNumberedPage, KeepsNumbers};
@@ -51,6 +51,14 @@ pub fn frame_lists()
     ensures lists { (page : Contents) (edit : Edit) (changed id : ℕ) → IsFaultless page edit → edited_node page edit ≡ Some changed → IsTrue (makes_context page id) → IsTrue (makes_context (edited page edit) id) →
         IsFalse (is_next_to page changed id) → IsFalse (is_next_to (edited page edit) changed id) → of_node entries (edited page edit) id ≡ of_node entries page id }
     ensures view_lists { (page : Contents) (edit : Edit) (id : ℕ) → edited_node page edit ≡ None → of_node entries (edited page edit) id ≡ of_node entries page id }
+{}
+
+/// A stacking context of the page after an edit of a node that was none before is next to the node, which is then there. An
+/// edit of the viewport leaves all stacking contexts.
+pub fn frame_contexts()
+    ensures new_there { (page : Contents) (edit : Edit) (changed id : ℕ) → IsFaultless page edit → edited_node page edit ≡ Some changed → IsFalse (makes_context page id) → IsTrue (makes_context (edited page edit) id) → IsTrue (has_id (edited page edit) changed) }
+    ensures new_next { (page : Contents) (edit : Edit) (changed id : ℕ) → IsFaultless page edit → edited_node page edit ≡ Some changed → IsFalse (makes_context page id) → IsTrue (makes_context (edited page edit) id) → IsTrue (is_next_to (edited page edit) changed id) }
+    ensures view_contexts { (page : Contents) (edit : Edit) (id : ℕ) → edited_node page edit ≡ None → makes_context (edited page edit) id ≡ makes_context page id }
 {}
 
 /// With the list of each real stacking context of a valid page in a table, lists nest at most 256 deep.
