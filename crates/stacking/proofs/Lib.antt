@@ -17,6 +17,7 @@ pub mod RestLemmas
 pub mod FrameLemmas
 pub mod TouchedLemmas
 pub mod MadeLemmas
+pub mod RenewLemmas
 pub mod MemberLemmas
 pub mod NestLemmas
 pub mod WeightLemmas

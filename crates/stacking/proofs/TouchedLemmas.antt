@@ -111,7 +111,7 @@ times-filter t (x ∷ xs) k = by_test (t x) (times-filter t xs k)
     by_test true rest = omega (arith, rest)
     by_test false rest = omega (arith, rest)
 
-among-both : (xs ys : List ℕ) (k : ℕ) → is_among (xs ++ ys) k ≡ (is_among xs k || is_among ys k)
+pub among-both : (xs ys : List ℕ) (k : ℕ) → is_among (xs ++ ys) k ≡ (is_among xs k || is_among ys k)
 among-both [] ys k = refl
 among-both (x ∷ xs) ys k = ap (λ c. (x == k) || c) (among-both xs ys k) ∙ or-assoc (x == k) (is_among xs k) (is_among ys k)
   where
@@ -151,7 +151,7 @@ ancestors-there IsSo (Grow n below others) above id p each known found = elim (f
 
 module _ (page : Contents) (valid : IsValid page) where
   -- no node has the id 0
-  zero-absent : occurrences page.tree 0 ≡ 0
+  pub zero-absent : occurrences page.tree 0 ≡ 0
   zero-absent = given-absent page.tree [] page.next 0 valid.given (inl refl)
 
   zero-apart : (id : ℕ) → occurrences (tree_of page id) 0 ≡ 0
@@ -203,7 +203,7 @@ module _ (page : Contents) (valid : IsValid page) where
           grind (arith, nat_tests, parent_is)
 
   -- what is near a node is next to it
-  near-next : (id k : ℕ) → is_among (near page id) k ≡ true → is_next_to page id k ≡ true
+  pub near-next : (id k : ℕ) → is_among (near page id) k ≡ true → is_next_to page id k ≡ true
   near-next id k is = by_tests (context_of page id == k) (id == k) (is_among (roots_of (below_of page id)) k) (parent_id (ancestors_of page k) == id) (child-next id k) is
     where
       by_tests : (a b c d : Bool) → (c ≡ true → d ≡ true) → (a || (b || c)) ≡ true → (a || (b || d)) ≡ true

@@ -4,7 +4,7 @@ use Rattle.std.specs.List.{filter}
 use Rattle.box_tree.specs.declared.edit.Edit.{Edit}
 use Rattle.box_tree.specs.declared.edit.Edit.TheVariants.{Add, Remove, Move, Place, Restyle, Reshape, Scroll, Resize, ScrollView}
 use Rattle.box_tree.specs.Forest.{roots_of, ids_in}
-use Rattle.box_tree.specs.Contents.{Contents, tree_of, below_of}
+use Rattle.box_tree.specs.Contents.{Contents, has_id, tree_of, below_of}
 use Rattle.box_tree.specs.Containing.{makes_context}
 use Rattle.box_tree.specs.Edited.{ancestors_below}
 use Rattle.stacking.specs.Contexts.{nearest_context, context_of}
@@ -20,6 +20,10 @@ context_around page parent = nearest_context (ancestors_below page parent)
 -- the context above a node, the node and its children
 abbrev pub near : Contents → ℕ → List ℕ
 near page id = context_of page id ∷ (id ∷ roots_of (below_of page id))
+
+-- those of a node that is there
+abbrev pub near_there : Contents → ℕ → List ℕ
+near_there page id = if has_id page id then near page id else []
 
 -- the context above the place to which a node is moved, where it is another one
 abbrev pub new_context : Contents → ℕ → ℕ → List ℕ

@@ -15,6 +15,7 @@ mod layer;
 mod lists;
 mod members;
 mod memory;
+mod once;
 #[cfg(test)]
 mod pages;
 mod pieces;
@@ -22,7 +23,7 @@ mod reach;
 mod reading;
 mod roles;
 
-pub use changes::touched;
+pub use changes::{renewed, touched};
 pub use context::context_of;
 pub use layer::layer_of;
 pub use lists::lists_of;

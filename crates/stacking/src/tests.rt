@@ -1,4 +1,4 @@
-use crate::changes::touched;
+use crate::changes::{renewed, touched};
 use crate::lists::lists_of;
 use crate::pages::{FLOAT, PLAIN, RELATIVE, add, with_z};
 use box_tree::{Edit, Kind, Page};
@@ -106,6 +106,23 @@ fn an_edit_touches_the_contexts_around_it(rt: HostRuntime) -> Result<(), Fail> {
         page.check(&edit)?;
         let ids = touched(alloc, &page, &edit)?;
         assert_eq!(rt; ids.as_slice(), expected);
+    }
+    Ok(())
+}
+
+#[test]
+fn lists_are_made_anew_around_a_node(rt: HostRuntime) -> Result<(), Fail> {
+    let alloc = rt.alloc();
+    let page = nested_page(&rt, alloc)?;
+    for (node, touched, expected) in [
+        (5, [].as_slice(), [1, 6].as_slice()),
+        (2, [4, 2].as_slice(), [1, 2, 4].as_slice()),
+        (4, [6, 3, 6, 99].as_slice(), [2, 4, 6].as_slice()),
+        (99, [4, 1, 4, 5].as_slice(), [4, 1].as_slice()),
+        (0, [].as_slice(), [].as_slice()),
+    ] {
+        let ids = renewed(alloc, &page, node, touched)?;
+        assert_eq!(rt; ids.as_slice(), expected, "around {node}");
     }
     Ok(())
 }
