@@ -21,7 +21,7 @@ context_around page parent = nearest_context (ancestors_below page parent)
 abbrev pub near : Contents → ℕ → List ℕ
 near page id = context_of page id ∷ (id ∷ roots_of (below_of page id))
 
--- those of a node that is there
+-- the same of a node that is there, and nothing of one that isn't
 abbrev pub near_there : Contents → ℕ → List ℕ
 near_there page id = if has_id page id then near page id else []
 

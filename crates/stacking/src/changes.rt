@@ -32,7 +32,12 @@ pub fn touched(alloc: Global, page: &Page, edit: &Edit) -> Result<Vec<u32>, OutO
 /// The stacking contexts of the page as it stands that are among the touched ones or next to a node, each once: with those
 /// that an edit touched and the node that it changed, those whose lists are to be made anew after it. A node that isn't
 /// there has none next to it. It takes memory for the answer and the walk.
-pub fn renewed(alloc: Global, page: &Page, node: u32, touched: &[u32]) -> Result<Vec<u32>, OutOfMemory>
+pub fn renewed(
+    alloc: Global,
+    page: &Page,
+    node: u32,
+    touched: &[u32],
+) -> Result<Vec<u32>, OutOfMemory>
     ensures contexts { IfOk result (λ ids. (id : ℕ) → IsTrue (is_among ids.items id) → IsTrue (makes_context page.now.contents id)) }
     ensures once { IfOk result (λ ids. (id : ℕ) → times_in id ids.items ≤ 1) }
     ensures all_touched { IfOk result (λ ids. (id : ℕ) → IsTrue (is_among touched.now id) → IsTrue (makes_context page.now.contents id) → IsTrue (is_among ids.items id)) }
@@ -45,7 +50,12 @@ pub fn renewed(alloc: Global, page: &Page, node: u32, touched: &[u32]) -> Result
 }
 
 // The stacking contexts near a node and among the touched ones.
-fn contexts_now(alloc: Global, page: &Page, node: u32, touched: &[u32]) -> Result<Vec<u32>, OutOfMemory>
+fn contexts_now(
+    alloc: Global,
+    page: &Page,
+    node: u32,
+    touched: &[u32],
+) -> Result<Vec<u32>, OutOfMemory>
     requires { IsValid page.now.contents }
     ensures { IfOk result (λ ids. ids.items ≡ contexts_among page.now.contents (near_there page.now.contents node ++ touched.now)) }
 {

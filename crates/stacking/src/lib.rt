@@ -2,8 +2,9 @@
 //!
 //! It promises that the layer of a stacking context and its list, in which other stacking contexts are left as entries,
 //! are those of the definitions in `specs/Painting.antt`, that each item of a page stands in the layer of its root once,
-//! and that an edit changes no lists but those that `touched` names. It stands on `box_tree` for the page and the used
-//! values of its nodes, and on `paint_order` for the entries of lists.
+//! that an edit changes no lists but those that `touched` names, and that it makes no stacking context but those that
+//! `renewed` names. It stands on `box_tree` for the page and the used values of its nodes, and on `paint_order` for the
+//! entries of lists.
 #![tactic(auto)]
 
 mod changes;
