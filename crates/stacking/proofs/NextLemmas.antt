@@ -10,7 +10,7 @@ use Rattle.box_tree.specs.Contents.{Contents, placed_of, has_id, below_of, IsVal
 use Rattle.box_tree.proofs.PlacedLemmas.{AreAtPlaces, found-at_places}
 use Rattle.stacking.specs.declared.pieces.Painted.TheVariants as painted
 use Rattle.stacking.specs.declared.members.Member.{Member}
-use Rattle.stacking.specs.Painting.{Paint, OneBox, Whole, LinePiece, OneItem, SubContext, at, blocks, floats, flat, layer, painted_piece, painted_member, listed_member, context_members}
+use Rattle.stacking.specs.Painting.{Paint, OneBox, Whole, LinePiece, OneItem, SubContext, at, blocks, floats, flat, painted_piece, listed_member, context_members}
 use Rattle.box_tree.specs.Used.{is_real_context}
 use Rattle.stacking.specs.OnPage.{of_node, part_of, line_pieces, member_of}
 use Rattle.stacking.proofs.ShareLemmas.{Throughout, HoldsOfPaint, HoldsOfPiece, of-blocks, of-floats, of-pieces, of-members}
@@ -137,14 +137,7 @@ box_of piece item is = of_paint piece.line piece.paint is
     of_paint line (OneBox item') is = let same : item' ≡ item = cc in ap (λ (i : Item). i ∷ []) same
     of_paint line (Whole p) is = absurd cc
 
--- what a member gives
-pub member-gives : (page : Contents) (h : ℕ) (m : Placed) (y : Member) → IsFoundBelow page h m → y ≡ member_of m → (if y.is_context then of_node layer page y.node else of_node flat page y.node) ≡ painted_member layer m
-member-gives page h m y holds is =
-    ap (λ (z : Member). if z.is_context then of_node layer page z.node else of_node flat page z.node) is
-    ∙ ap (λ xs. if at is_real_context m then xs else of_node flat page m.label.id) (gives page h m holds m.label.id refl layer)
-    ∙ ap (λ xs. if at is_real_context m then layer m else xs) (gives page h m holds m.label.id refl flat)
-
--- and which entries
+-- what entries a member gives
 pub member-lists : (page : Contents) (h : ℕ) (m : Placed) (y : Member) → IsFoundBelow page h m → y ≡ member_of m → (if y.is_context then SubContext y.node ∷ [] else map OneItem (of_node flat page y.node)) ≡ listed_member m
 member-lists page h m y holds is =
     ap (λ (z : Member). if z.is_context then SubContext z.node ∷ [] else map OneItem (of_node flat page z.node)) is

@@ -12,13 +12,13 @@ use Rattle.box_tree.specs.Forest.{Label, Placed}
 use Rattle.box_tree.specs.Contents.{Contents, node_of, placed_of, ancestors_of, IsValid}
 use Rattle.box_tree.specs.Kept.{label_of}
 use Rattle.box_tree.specs.Containing.{parent_of}
-use Rattle.stacking.specs.Painting.{at, has_head, is_inline, is_replaced_kind, box_items, own, content_item, content, head, own_pieces, shares_in, reach, blocks, floats, pieces, context_members, is_on_lower_level, is_on_lower_line, painted_piece, painted_member, lines, flat, body, layer, ContextEntry, OneItem, listed_member, entries}
+use Rattle.stacking.specs.Painting.{at, has_head, is_inline, is_replaced_kind, box_items, own, content_item, content, head, own_pieces, shares_in, reach, blocks, floats, pieces, context_members, is_on_lower_level, is_on_lower_line, painted_piece, lines, flat, body, ContextEntry, OneItem, listed_member, entries}
 use Rattle.stacking.specs.Sorting.{sorted_by}
 use Rattle.stacking.specs.OnPage.{of_node, ids_of, gathered_in, gathered, part_of, line_parts, line_pieces, member_of, members_of, on_side}
-use Rattle.stacking.specs.declared.layer.Side.{Side}
-use Rattle.stacking.specs.declared.layer.Side.TheVariants as side
+use Rattle.stacking.specs.declared.members.Side.{Side}
+use Rattle.stacking.specs.declared.members.Side.TheVariants as side
 use Rattle.stacking.proofs.ListLemmas.{map-flat_map}
-use Rattle.stacking.proofs.LevelLemmas.{flat-is, layer-is}
+use Rattle.stacking.proofs.LevelLemmas.{flat-is}
 use Rattle.stacking.proofs.PageLemmas.{here, of_node-seen, label-seen, ancestors-seen}
 use Rattle.stacking.proofs.GatherLemmas.{met_ids, ids-met, pieces-gathered, members-gathered}
 
@@ -138,15 +138,6 @@ module _ (page : Contents) (id : ℕ) where
       by_place : (o : Option Placed) → option_map_or body o [] ≡ flat_map own (option_map_or blocks o []) ++ (flat_map flat (option_map_or floats o []) ++ (option_map_or lines o [] ++ flat_map lines (option_map_or blocks o [])))
       by_place None = refl
       by_place (Some p) = refl
-
-  pub layer-on : of_node layer page id ≡ of_node head page id ++ (flat_map (painted_member layer) (filter (on_side side.Below) (of_node context_members page id)) ++ (of_node body page id
-      ++ (flat_map (painted_member layer) (filter (on_side side.Zero) (of_node context_members page id)) ++ flat_map (painted_member layer) (filter (on_side side.Above) (of_node context_members page id)))))
-  layer-on = by_place (placed_of page id)
-    where
-      by_place : (o : Option Placed) → option_map_or layer o [] ≡ option_map_or head o [] ++ (flat_map (painted_member layer) (filter (on_side side.Below) (option_map_or context_members o [])) ++ (option_map_or body o []
-          ++ (flat_map (painted_member layer) (filter (on_side side.Zero) (option_map_or context_members o [])) ++ flat_map (painted_member layer) (filter (on_side side.Above) (option_map_or context_members o [])))))
-      by_place None = refl
-      by_place (Some p) = layer-is p
 
   -- what is made of each entry of its list
   pub list-on : {E : Type 0} (h : ContextEntry → E) → map h (of_node entries page id) ≡ map h (map OneItem (of_node head page id)) ++ (flat_map (λ m. map h (listed_member m)) (filter (on_side side.Below) (of_node context_members page id)) ++ (map h (map OneItem (of_node body page id))

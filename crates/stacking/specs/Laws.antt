@@ -3,7 +3,7 @@ use Rattle.std.specs.Prelude.{◌≡◌, ◌++◌, if◌then◌else◌}
 use Rattle.std.specs.List.{filter, flat_map}
 use Rattle.box_tree.specs.Forest.{Placed}
 use Rattle.stacking.specs.Sorting.{sorted_by}
-use Rattle.stacking.specs.declared.layer.Side.TheVariants as side
+use Rattle.stacking.specs.declared.members.Side.TheVariants as side
 use Rattle.stacking.specs.Painting.{is_replaced_kind, own, content, head, blocks, floats, pieces, is_on_lower_line, painted_piece, lines, flat, context_members, painted_member, layer}
 use Rattle.stacking.specs.OnPage.{on_side}
 

@@ -10,8 +10,8 @@ use Rattle.stacking.specs.declared.pieces.LinePart.{LinePart}
 use Rattle.stacking.specs.declared.pieces.Painted.{Painted}
 use Rattle.stacking.specs.declared.pieces.Painted.TheVariants as painted
 use Rattle.stacking.specs.declared.members.Member.{Member}
-use Rattle.stacking.specs.declared.layer.Side.{Side}
-use Rattle.stacking.specs.declared.layer.Side.TheVariants as side
+use Rattle.stacking.specs.declared.members.Side.{Side}
+use Rattle.stacking.specs.declared.members.Side.TheVariants as side
 use Rattle.stacking.specs.Sorting.{sorted_by}
 use Rattle.stacking.specs.Painting.{Paint, OneBox, Whole, LinePiece, Share, at, is_block, is_float, level_of, shares_in, pieces, is_on_lower_line}
 

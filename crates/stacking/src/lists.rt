@@ -7,9 +7,9 @@ ghost use Rattle.stacking.specs.Painting.{OneItem, SubContext, head, body, flat,
 ghost use Rattle.stacking.specs.OnPage.{of_node, member_of, on_side};
 ghost use Rattle.stacking.specs.Lists.{number_of, numbered};
 
+use crate::flat::{paint_body, paint_flat};
 use crate::items::push_head;
-use crate::layer::{Side, is_on_side, paint_body, paint_flat};
-use crate::members::{Member, context_members};
+use crate::members::{Member, Side, context_members, is_on_side};
 use crate::memory::OutOfMemory;
 use crate::reading::numbers_in;
 use box_tree::{Item, Page, Part};
@@ -131,3 +131,6 @@ fn place_of(part: Part) -> usize
         Part::Outline => 0,
     }
 }
+
+#[cfg(test)]
+mod tests;

@@ -4,7 +4,7 @@ ghost use Rattle.box_tree.specs.Contents.{IsValid, has_id};
 ghost use Rattle.box_tree.specs.Kept.{label_of};
 ghost use Rattle.box_tree.specs.Used.{is_real_context, stack_level};
 ghost use Rattle.stacking.specs.Painting.{context_members, is_member};
-ghost use Rattle.stacking.specs.OnPage.{of_node, gathered, member_of, members_of};
+ghost use Rattle.stacking.specs.OnPage.{of_node, gathered, member_of, members_of, is_on_side};
 
 use crate::memory::OutOfMemory;
 use crate::reading::read;
@@ -20,6 +20,14 @@ pub(crate) struct Member {
     pub node: u32,
     /// Whether it is a stacking context itself.
     pub is_context: bool,
+}
+
+/// The levels of members: those below 0, 0 itself, and those above it.
+#[derive(Clone, Copy)]
+pub(crate) enum Side {
+    Below,
+    Zero,
+    Above,
 }
 
 // The members of a stacking context, level by level.
@@ -86,5 +94,16 @@ fn as_member(parent: &Node, node: &Node) -> Member
         level,
         node: node.id,
         is_context,
+    }
+}
+
+// Whether a member is on one side of level 0.
+pub(crate) fn is_on_side(side: Side, member: Member) -> bool
+    ensures { result ≡ is_on_side side member.level }
+{
+    match side {
+        Side::Below => member.level < 0,
+        Side::Zero => member.level == 0,
+        Side::Above => member.level > 0,
     }
 }

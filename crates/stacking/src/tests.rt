@@ -1,4 +1,5 @@
 use crate::changes::{renewed, touched};
+use crate::context::context_of;
 use crate::lists::lists_of;
 use crate::pages::{FLOAT, PLAIN, RELATIVE, add, with_z};
 use box_tree::{Edit, Kind, Page};
@@ -37,6 +38,26 @@ fn own(item: u32) -> Entry {
 // A stacking context in a list.
 fn context(list: u32) -> Entry {
     Entry::Sub { list }
+}
+
+#[test]
+fn the_context_around_is_the_nearest_above(rt: HostRuntime) -> Result<(), Fail> {
+    let alloc = rt.alloc();
+    let mut page = Page::new(alloc, 81_920, 46_080);
+    for adding in [
+        (0, 0, Kind::Block, PLAIN),
+        (1, 0, Kind::Block, RELATIVE),
+        (2, 0, Kind::Block, with_z(5)),
+        (3, 0, Kind::Block, PLAIN),
+        (4, 0, Kind::Text, PLAIN),
+    ] {
+        add(&rt, alloc, &mut page, adding)?;
+    }
+    for (id, expected) in [(1, 0), (2, 1), (3, 1), (4, 3), (5, 3)] {
+        assert!(rt; page.has(id));
+        assert_eq!(rt; context_of(&page, id), expected, "above {id}");
+    }
+    Ok(())
 }
 
 #[test]

@@ -1,8 +1,8 @@
 -- The parts of the list one after another.
 use Rattle.std.proofs.Common.{ap, ◌++◌, ◌∙◌, map}
 use Rattle.std.specs.List.{filter, flat_map}
-use Rattle.stacking.specs.declared.layer.Side.{Side}
-use Rattle.stacking.specs.declared.layer.Side.TheVariants as side
+use Rattle.stacking.specs.declared.members.Side.{Side}
+use Rattle.stacking.specs.declared.members.Side.TheVariants as side
 use Rattle.stacking.specs.Painting.{OneItem, head, body, entries, context_members, listed_member}
 use Rattle.stacking.specs.OnPage.{of_node, on_side}
 use Rattle.stacking.specs.Lists.{numbered}

@@ -9,8 +9,8 @@ use Rattle.stacking.specs.OnPage.{of_node, part_of, line_pieces}
 use Rattle.stacking.proofs.ShareLemmas.{HoldsOfPiece}
 use Rattle.stacking.proofs.SeenLemmas.{ok-weaker, appended_four, flat-on, body-on, lines-seen}
 use Rattle.stacking.proofs.NextLemmas.{IsFoundBelow, levels, each_block, each_float, each_piece, nth, walk-more, walk-all, there, gives, deeper, atom_of, box_of}
-use Rattle.stacking.proofs.layer.+walks.Goals as goal
-use Rattle.stacking.proofs.layer.+walks.Goals.{paint_parts-in-OneBox+in_ok-push-in-OneBox, paint_parts-in-Whole+in_ok-paint_flat-in-Whole}
+use Rattle.stacking.proofs.flat.+walks.Goals as goal
+use Rattle.stacking.proofs.flat.+walks.Goals.{paint_parts-in-OneBox+in_ok-push-in-OneBox, paint_parts-in-Whole+in_ok-paint_flat-in-Whole}
 
 pub paint_flat-returns : goal.paint_flat-returns
 paint_flat-returns t c =

@@ -4,7 +4,7 @@ use Rattle.box_tree.specs.Forest.{Placed}
 use Rattle.stacking.specs.Painting.{own, blocks}
 use Rattle.stacking.specs.OnPage.{of_node}
 use Rattle.stacking.proofs.NextLemmas.{IsFoundBelow, levels, each_block, nth, walk-more, walk-all, there, gives}
-use Rattle.stacking.proofs.layer.push_blocks.Goals as goal
+use Rattle.stacking.proofs.flat.push_blocks.Goals as goal
 
 pub loop-block-init : goal.loop-block-init
 loop-block-init c = refl

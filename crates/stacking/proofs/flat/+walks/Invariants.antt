@@ -4,7 +4,7 @@ use Rattle.std.specs.List.{flat_map}
 use Rattle.stacking.specs.Painting.{flat, lines, blocks, floats, painted_piece}
 use Rattle.stacking.specs.OnPage.{of_node, line_pieces}
 use Rattle.stacking.proofs.NextLemmas.{levels}
-use Rattle.stacking.proofs.layer.+walks.Given as goal
+use Rattle.stacking.proofs.flat.+walks.Given as goal
 
 abbrev pub decreases-paint_flat : goal.decreases-paint_flat
 decreases-paint_flat l = 4 * levels l.page.now.contents l.id + 3
