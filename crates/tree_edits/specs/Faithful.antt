@@ -12,11 +12,6 @@ use Rattle.spaces.specs.declared.table.entry.Entry.{Entry}
 use Rattle.spaces.specs.Bound.{is_bounded}
 use Rattle.spaces.specs.Table.{IsTableOf}
 
--- the page is within the bound on maps, and the table is that of the page
-pub record IsFaithful (page : Contents) (spaces : List (Option Entry)) : Type 0 where
-  pub bounded : IsTrue (is_bounded page)
-  pub table : IsTableOf spaces page
-
 -- the number of the root list: the id of the root, and 0 without one
 abbrev pub root_number : List ℕ → ℕ
 root_number [] = 0
@@ -36,3 +31,9 @@ list_of page items id =
 pub record IsForestOf (forest : State) (page : Contents) (items : ItemsState) : Type 0 where
   pub root : forest.root ≡ root_number (roots_of page.tree)
   pub lists : (number : ℕ) → list_under forest.lists number ≡ list_of page items number
+
+-- the page is within the bound on maps, the table is that of the page, and so are the lists
+pub record IsFaithful (page : Contents) (items : ItemsState) (spaces : List (Option Entry)) (forest : State) : Type 0 where
+  pub bounded : IsTrue (is_bounded page)
+  pub table : IsTableOf spaces page
+  pub lists : IsForestOf forest page items

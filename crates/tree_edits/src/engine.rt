@@ -6,39 +6,28 @@ ghost use Rattle.box_tree.specs.Numbers.{KeepsNumbers, GivesFreshNumbers, HasSam
 ghost use Rattle.spaces.specs.Bound.{is_bounded};
 ghost use Rattle.spaces.specs.Table.{IsTableOf};
 ghost use Rattle.tree_edits.specs.Edits.{first_fault, fault_of};
+ghost use Rattle.tree_edits.specs.Faithful.{IsForestOf};
 
+use crate::lists::exchange_lists;
+use crate::memory::OutOfMemory;
 use crate::reach::{removed_ids, renewed_node};
+use crate::renewal::make_ready;
 use box_tree::{Done, Edit, EditFault, Page};
 use fractions::{Ledger, Steps};
+use paint_order::Forest;
 use spaces::laws::{frame_bound, frame_table};
 use spaces::{BoundOrMemory, SpaceTable};
-use std::alloc::{AllocError, AllocFailed, Global};
+use stacking::touched;
+use std::alloc::Global;
 use std::marker::Model;
-use thiserror::Error;
-
-/// No memory was left.
-#[derive(Clone, Copy, Debug, PartialEq, Eq, Error)]
-#[error("out of memory")]
-pub struct OutOfMemory;
-
-impl From<AllocError> for OutOfMemory {
-    fn from(_error: AllocError) -> OutOfMemory {
-        OutOfMemory
-    }
-}
-
-impl<T: Drop> From<AllocFailed<T>> for OutOfMemory {
-    fn from(_error: AllocFailed<T>) -> OutOfMemory {
-        OutOfMemory
-    }
-}
 
 /// A page that is edited and queried, which clauses see as its contents and the numbers of its items, with the table of its
-/// spaces. No partial product of any of its nodes passes the bound on maps.
+/// spaces and the forest of its painting lists. No partial product of any of its nodes passes the bound on maps.
 #[derive(Drop)]
 pub struct Engine {
     page: Page,
     spaces: SpaceTable,
+    forest: Forest,
     alloc: Global,
 }
 
@@ -56,7 +45,7 @@ impl Model for Engine {
 
     ghost use Rattle.tree_edits.specs.Faithful.{IsFaithful};
 
-    ghost invariant = { λ e. IsFaithful e.page.contents e.spaces };
+    ghost invariant = { λ e. IsFaithful e.page.contents e.page.items e.spaces e.forest };
 }
 
 impl Engine {
@@ -70,6 +59,7 @@ impl Engine {
         Ok(Engine {
             page: Page::new(alloc, w, h),
             spaces: SpaceTable::new(alloc),
+            forest: Forest::new(alloc, 0)?,
             alloc,
         })
     }
@@ -92,13 +82,36 @@ impl Engine {
         frame_bound();
         self.page.validity();
         let prepared = self.page.check(edit)?;
-        let removed = removed_ids(self.alloc, &self.page, edit, steps)?;
+        let Ok(removed) = removed_ids(self.alloc, &self.page, edit, steps) else {
+            return Err(EditFault::OutOfMemory);
+        };
+        let Ok(touched) = touched(self.alloc, &self.page, edit) else {
+            return Err(EditFault::OutOfMemory);
+        };
         let subtree = renewed_node(&self.page, edit);
+        let was_bare = self.page.root().is_none();
+        self.page.numbering();
         let undo = self.page.commit(prepared);
         self.page.validity();
-        match self.spaces.renew(&self.page, subtree) {
-            Ok(change) => {
+        match make_ready(
+            self.alloc,
+            &self.page,
+            &mut self.spaces,
+            &mut self.forest,
+            subtree,
+            touched.as_slice(),
+        ) {
+            Ok((change, lists)) => {
                 self.spaces.apply(change, removed.as_slice(), steps);
+                exchange_lists(
+                    self.alloc,
+                    &mut self.forest,
+                    &self.page,
+                    touched.as_slice(),
+                    lists,
+                    was_bare,
+                    steps,
+                );
                 Ok(self.page.settle(undo))
             }
             Err(why) => {
@@ -122,6 +135,14 @@ impl Engine {
         ensures { IsTableOf result.now self.now.contents }
     {
         &self.spaces
+    }
+
+    /// The lists of the stacking contexts of the page as it stands, each under the id of the context and with the numbers of
+    /// the items, the root list under the id of the root: an empty list 0 for a page without a tree.
+    pub fn forest(&self) -> &Forest
+        ensures { IsForestOf result.now self.now.contents self.now.items }
+    {
+        &self.forest
     }
 }
 

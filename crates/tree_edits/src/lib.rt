@@ -2,11 +2,18 @@
 //!
 //! It promises that an edit is applied, or refused by its first fault and changes nothing; the last of the faults is the
 //! bound on maps, by `specs/Edits.antt`. It keeps the table of the spaces of its page, which an edit renews for the subtree
-//! that it changes; what it keeps is always what the page says, by `specs/Faithful.antt`. It stands on `box_tree` for the
-//! page, its faults and its edits, on `spaces` for the table and the bound, and on `fractions` for the counter of steps.
+//! that it changes, and a forest with the painting list of each stacking context, of which an edit renews those that it can
+//! change. What it keeps is always what the page says, by `specs/Faithful.antt`. All that an edit renews is made ready before
+//! anything is put in, so that an edit that is refused leaves it as it was. The crate stands on `box_tree` for the page, its
+//! faults and its edits, on `spaces` for the table and the bound, on `stacking` for the lists, on `paint_order` for the forest,
+//! and on `fractions` for the counter of steps.
 #![tactic(auto)]
 
 mod engine;
+mod lists;
+mod memory;
 mod reach;
+mod renewal;
 
-pub use engine::{Engine, OutOfMemory};
+pub use engine::Engine;
+pub use memory::OutOfMemory;

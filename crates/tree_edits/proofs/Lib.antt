@@ -1,0 +1,4 @@
+pub mod ExchangeLemmas
+pub mod NumberLemmas
+pub mod RenewalLemmas
+pub mod TableLemmas
