@@ -1,15 +1,15 @@
 -- Lists exchanged in a forest that follows the edits of a page.
-use Rattle.std.proofs.Common.{◌≡◌, ◌≢◌, ◌⊎◌, ℕ, zero, suc, ◌+◌, ◌<◌, ◌≤◌, ◌==◌, List, [], ◌∷◌, length, map, Option, Some, None, IsSome, is_some, Bool, true, false, if◌then◌else◌, refl, sym, ap, ◌∙◌, subst, inl, inr, arith}
+use Rattle.std.proofs.Common.{◌≡◌, ◌≢◌, ◌⊎◌, ℕ, zero, suc, ◌<◌, ◌==◌, List, [], ◌∷◌, Some, None, IsSome, is_some, Bool, true, false, if◌then◌else◌, refl, sym, ap, ◌∙◌, subst, inl, inr, arith}
 use Rattle.std.specs.Prelude.{◌||◌, ◌&&◌, not, unwrap_or}
 use Rattle.std.specs.List.{AllByRecursion}
 use Rattle.std.specs.Option.{option_map_or, option_or}
-use Rattle.std.proofs.lemmas.Bool.{cases_eq, cases_lt, false≢true}
+use Rattle.std.proofs.lemmas.Bool.{cases_eq, false≢true}
 use Rattle.std.proofs.lemmas.Bool.Decides.{nat_tests}
-use Rattle.box_tree.specs.Forest.{Label, Forest, End, Grow, Placed, placed_in, roots_of}
-use Rattle.box_tree.specs.Contents.{Contents, placed_of, IsValid, IsGiven}
+use Rattle.box_tree.specs.Forest.{Forest, End, Grow, Placed, placed_in, roots_of}
+use Rattle.box_tree.specs.Contents.{Contents, IsValid, IsGiven}
 use Rattle.box_tree.specs.Containing.{parent_of, makes_context}
 use Rattle.box_tree.specs.Numbers.{ItemsState}
-use Rattle.box_tree.specs.Planned.{is_among, times_in}
+use Rattle.box_tree.specs.Planned.{is_among}
 use Rattle.box_tree.specs.Used.{is_real_context}
 use Rattle.box_tree.proofs.PlacedLemmas.{id-placed_in}
 use Rattle.box_tree.proofs.MoveLemmas.{each-placed}
@@ -19,7 +19,7 @@ use Rattle.paint_order.specs.State.{State}
 use Rattle.stacking.specs.Lists.{kept_list, HasOnlyListsOf}
 use Rattle.stacking.proofs.MemberLemmas.{context_at}
 use Rattle.tree_edits.specs.Exchange.{ContextList, IsListOf, contexts_of, MayExchange}
-use Rattle.tree_edits.specs.Faithful.{root_number, is_bare, list_of, IsForestOf}
+use Rattle.tree_edits.specs.Faithful.{root_number, is_bare, list_of}
 use Rattle.tree_edits.proofs.TableLemmas.{Slot, all_made, all_made-is}
 
 -- ---- ids of stacking contexts

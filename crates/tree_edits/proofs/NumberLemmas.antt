@@ -1,8 +1,7 @@
 -- Numbers of items before and after an edit, where a test that changes no number came before it.
-use Rattle.std.proofs.Common.{◌≡◌, ◌⊎◌, ℕ, List, map, get_or, ap, inl, inr, refl, ◌∙◌, ◌∷◌, []}
-use Rattle.box_tree.specs.declared.item.Item.{Item}
+use Rattle.std.proofs.Common.{◌≡◌, ℕ, List, map, get_or, ap, inl, inr, refl, ◌∙◌, ◌∷◌, []}
 use Rattle.box_tree.specs.Contents.{Contents}
-use Rattle.box_tree.specs.Numbers.{ItemsState, Names, KeepsNumbers, GivesFreshNumbers, HasSameItems, numbers_of, place_of}
+use Rattle.box_tree.specs.Numbers.{ItemsState, KeepsNumbers, GivesFreshNumbers, HasSameItems, place_of}
 use Rattle.paint_order.specs.declared.entry.Entry.{Entry}
 use Rattle.paint_order.specs.declared.entry.Entry.TheVariants as entry
 use Rattle.stacking.specs.Lists.{numbered, kept_list}

@@ -1,5 +1,5 @@
 -- A forest of the page before an edit, with the new lists, has all that the exchange asks.
-use Rattle.std.proofs.Common.{◌≡◌, ◌≢◌, ◌⊎◌, ℕ, ◌<◌, ◌≤◌, ◌==◌, List, [], ◌∷◌, Option, Some, None, IsSome, is_some, Bool, true, false, if◌then◌else◌, refl, sym, ap, ◌∙◌, subst, inl, inr, arith, replicate, set, zero, suc}
+use Rattle.std.proofs.Common.{◌≡◌, ◌≢◌, ◌⊎◌, ℕ, ◌<◌, ◌≤◌, ◌==◌, List, [], Option, Some, None, is_some, Bool, true, false, if◌then◌else◌, refl, sym, ap, ◌∙◌, subst, inl, inr, arith, replicate, set, zero, suc}
 use Rattle.std.specs.Prelude.{◌&&◌, not, unwrap_or, ℤ}
 use Rattle.std.specs.List.{AllByRecursion}
 use Rattle.std.specs.Option.{option_or, option_to_list}
@@ -16,7 +16,7 @@ use Rattle.box_tree.specs.Frame.{edited_node, IsFaultless}
 use Rattle.box_tree.specs.Numbers.{ItemsState, IsNumberedPage, KeepsNumbers, HasSameItems}
 use Rattle.box_tree.specs.Planned.{is_among, times_in}
 use Rattle.paint_order.specs.declared.entry.Entry.{Entry}
-use Rattle.paint_order.specs.Lists.{Lists, list_under}
+use Rattle.paint_order.specs.Lists.{list_under}
 use Rattle.paint_order.specs.State.{State}
 use Rattle.spaces.specs.declared.table.entry.Entry.{Entry as SpaceEntry}
 use Rattle.spaces.specs.declared.table.fault.BoundOrMemory.{BoundOrMemory}

@@ -1,12 +1,12 @@
 -- New lists, and what a forest is to have so that they can take the place of those that an edit can change.
-use Rattle.std.specs.Prelude.{◌≡◌, ◌⊎◌, ℕ, ◌<◌, ◌≤◌, ◌==◌, ◌&&◌, Bool, List, [], Option, Some, None, map, IsTrue, IsFalse, IsSome, if◌then◌else◌}
+use Rattle.std.specs.Prelude.{◌≡◌, ◌⊎◌, ℕ, ◌<◌, ◌≤◌, ◌==◌, ◌&&◌, Bool, List, [], Some, None, map, IsTrue, IsFalse, IsSome, if◌then◌else◌}
 use Rattle.std.specs.List.{AllByRecursion}
 use Rattle.box_tree.specs.Containing.{makes_context}
 use Rattle.box_tree.specs.Contents.{Contents}
 use Rattle.box_tree.specs.Numbers.{ItemsState, IsNumber}
 use Rattle.box_tree.specs.Planned.{is_among, times_in}
 use Rattle.paint_order.specs.declared.entry.Entry.{Entry}
-use Rattle.paint_order.specs.Lists.{Lists, list_under}
+use Rattle.paint_order.specs.Lists.{list_under}
 use Rattle.paint_order.specs.State.{State, list_room}
 use Rattle.stacking.specs.Lists.{kept_list}
 

@@ -1,5 +1,5 @@
 -- Each id stands once, so those that are left stand when it is their turn.
-use Rattle.std.proofs.Common.{◌≡◌, ◌≢◌, ℕ, List, [], Option, Some, None, Bool, true, false, if◌then◌else◌, get_or, drop, refl, sym, ap, subst, ◌∙◌, arith}
+use Rattle.std.proofs.Common.{◌≡◌, ◌≢◌, ℕ, List, None, Bool, true, false, if◌then◌else◌, get_or, refl, sym, ap, subst, ◌∙◌}
 use Rattle.std.specs.Prelude.{◌&&◌, not}
 use Rattle.std.proofs.lemmas.List.{drop_all}
 use Rattle.box_tree.specs.Containing.{makes_context}

@@ -1,7 +1,5 @@
 -- The parts of the exchange, one after another.
-use Rattle.std.proofs.Common.{◌≡◌, ◌≢◌, ℕ, ◌<◌, subst, sym, ap, ◌∙◌, arith}
-use Rattle.box_tree.specs.Forest.{roots_of}
-use Rattle.tree_edits.specs.Faithful.{root_number}
+use Rattle.std.proofs.Common.{◌≢◌, ℕ, ◌<◌, subst, sym, ◌∙◌, arith}
 use Rattle.tree_edits.proofs.ExchangeLemmas.{cleared-only, first-stands, root-stands, root-positive, touched-stand, touched-apart, exchanged}
 use Rattle.tree_edits.proofs.lists.exchange_lists.Goals as goal
 

@@ -1,11 +1,11 @@
 -- Each list is one of the page, and so are those that stand, so it may be put.
-use Rattle.std.proofs.Common.{◌≡◌, ◌+◌, ◌<◌, ◌≤◌, ◌==◌, ℕ, List, Some, None, if◌then◌else◌, length, get_or, drop, refl, sym, ap, subst, ◌∙◌, arith}
+use Rattle.std.proofs.Common.{◌<◌, ◌≤◌, ◌==◌, ℕ, List, Some, if◌then◌else◌, length, drop, sym, ap, subst, ◌∙◌, arith}
 use Rattle.std.specs.Prelude.{All}
 use Rattle.std.proofs.lemmas.List.{drop_all, length_push, length-set}
 use Rattle.std.proofs.lemmas.Iterator.Consumers.{YieldsList-turn, YieldsList-end}
 use Rattle.std.proofs.lemmas.Iterator.Adapters.{YieldsList-from_vec}
 use Rattle.paint_order.specs.declared.entry.Entry.{Entry}
-use Rattle.paint_order.specs.Lists.{Lists, list_under, IsInRoom, AreDistinct, StandNowhereElse}
+use Rattle.paint_order.specs.Lists.{list_under, IsInRoom, AreDistinct, StandNowhereElse}
 use Rattle.paint_order.specs.State.{State, list_room}
 use Rattle.stacking.specs.Lists.{kept_list}
 use Rattle.tree_edits.specs.Exchange.{ContextList, IsListOf}
