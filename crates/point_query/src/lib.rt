@@ -15,6 +15,7 @@ mod chains;
 mod elements;
 pub mod laws;
 mod outlines;
+mod topmost;
 
 pub use chains::chain;
 pub use elements::{hit, top};
