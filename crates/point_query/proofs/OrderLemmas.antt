@@ -1,10 +1,11 @@
 -- Numbers that are ordered by a list, topmost first: what of them passes a test is what of the list does, the other way round.
-use Rattle.std.proofs.Common.{◌≡◌, ℕ, zero, suc, ◌+◌, ◌<◌, ◌≤◌, ◌==◌, nat_lt, add-one, List, [], ◌∷◌, ◌++◌, reverse, reverse-cons, length, get_or, Bool, true, false, cond, if◌then◌else◌, refl, sym, ap, subst, ◌∙◌, arith}
+use Rattle.std.proofs.Common.{◌≡◌, ℕ, zero, suc, ◌+◌, ◌<◌, ◌≤◌, ◌==◌, nat_lt, add-one, List, [], ◌∷◌, ◌++◌, reverse, length, get_or, Bool, true, false, cond, if◌then◌else◌, refl, sym, ap, subst, ◌∙◌, arith}
 use Rattle.std.specs.Prelude.{◌&&◌, ◌||◌}
 use Rattle.std.specs.List.{filter, AllByRecursion}
 use Rattle.std.specs.List.Sorted.{IsSortedBy}
 use Rattle.std.proofs.lemmas.Bool.{false≢true}
 use Rattle.std.proofs.lemmas.Bool.Decides.{nat_tests}
+use Rattle.std.proofs.lemmas.List.{reverse-append}
 use Rattle.std.proofs.lemmas.List.Elements.{recursion_from_All}
 use Rattle.std.proofs.lemmas.List.Sorted.{sorted_far, IsPermutation-reverse, list_any-IsPermutation}
 use Rattle.paint_order.specs.Order.{is_member}
@@ -77,30 +78,30 @@ module _ (key : ℕ → ℕ) where
       by_test false is = refl
 
   -- there is one such list with the same members
-  falls-same : (as bs : List ℕ) → Falls as → Falls bs → ((x : ℕ) → is_member x as ≡ is_member x bs) → as ≡ bs
+  falls-same : (cs ds : List ℕ) → Falls cs → Falls ds → ((x : ℕ) → is_member x cs ≡ is_member x ds) → cs ≡ ds
   falls-same [] [] fall fall' same = refl
-  falls-same [] (b ∷ bs) fall fall' same = absurd (false≢true (same b ∙ member-first b bs))
-  falls-same (a ∷ as) [] fall fall' same = absurd (false≢true (sym (same a) ∙ member-first a as))
-  falls-same (a ∷ as) (b ∷ bs) fall fall' same = by_test (falls-same as bs fall.1 fall'.1) (a == b) refl
+  falls-same [] (b ∷ ds) fall fall' same = absurd (false≢true (same b ∙ member-first b ds))
+  falls-same (a ∷ cs) [] fall fall' same = absurd (false≢true (sym (same a) ∙ member-first a cs))
+  falls-same (a ∷ cs) (b ∷ ds) fall fall' same = by_test (falls-same cs ds fall.1 fall'.1) (a == b) refl
     where
-      tails : a ≡ b → (x : ℕ) → is_member x as ≡ is_member x bs
+      tails : a ≡ b → (x : ℕ) → is_member x cs ≡ is_member x ds
       tails e x = by_member (a == x) refl (same x)
         where
-          by_member : (t : Bool) → (a == x) ≡ t → is_member x (a ∷ as) ≡ is_member x (b ∷ bs) → is_member x as ≡ is_member x bs
+          by_member : (t : Bool) → (a == x) ≡ t → is_member x (a ∷ cs) ≡ is_member x (b ∷ ds) → is_member x cs ≡ is_member x ds
           by_member true is both =
               let here : a ≡ x = grind (arith, nat_tests) in
-              ap (λ (n : ℕ). is_member n as) (sym here) ∙ none-below a as fall.0 ∙ sym (ap (λ (n : ℕ). is_member n bs) (sym here ∙ e) ∙ none-below b bs fall'.0)
+              ap (λ (n : ℕ). is_member n cs) (sym here) ∙ none-below a cs fall.0 ∙ sym (ap (λ (n : ℕ). is_member n ds) (sym here ∙ e) ∙ none-below b ds fall'.0)
           by_member false is both =
               let is' : (b == x) ≡ false = ap (λ (n : ℕ). n == x) (sym e) ∙ is in
-              ap (λ (t : Bool). t || is_member x as) (sym is) ∙ both ∙ ap (λ (t : Bool). t || is_member x bs) is'
+              ap (λ (t : Bool). t || is_member x cs) (sym is) ∙ both ∙ ap (λ (t : Bool). t || is_member x ds) is'
 
-      by_test : (((x : ℕ) → is_member x as ≡ is_member x bs) → as ≡ bs) → (t : Bool) → (a == b) ≡ t → a ∷ as ≡ b ∷ bs
-      by_test rest true is = let e : a ≡ b = grind (arith, nat_tests) in ap (λ (n : ℕ). n ∷ as) e ∙ ap (λ (ns : List ℕ). b ∷ ns) (rest (tails e))
+      by_test : (((x : ℕ) → is_member x cs ≡ is_member x ds) → cs ≡ ds) → (t : Bool) → (a == b) ≡ t → a ∷ cs ≡ b ∷ ds
+      by_test rest true is = let e : a ≡ b = grind (arith, nat_tests) in ap (λ (n : ℕ). n ∷ cs) e ∙ ap (λ (ns : List ℕ). b ∷ ns) (rest (tails e))
       by_test rest false is =
           let is' : (b == a) ≡ false = grind (arith, nat_tests) in
-          let later : is_member a bs ≡ true = ap (λ (t : Bool). t || is_member a bs) (sym is') ∙ sym (same a) ∙ member-first a as in
-          let later' : is_member b as ≡ true = ap (λ (t : Bool). t || is_member b as) (sym is) ∙ same b ∙ member-first b bs in
-          absurd (omega (arith, member-below a (key b) bs fall'.0 later, member-below b (key a) as fall.0 later'))
+          let later : is_member a ds ≡ true = ap (λ (t : Bool). t || is_member a ds) (sym is') ∙ sym (same a) ∙ member-first a cs in
+          let later' : is_member b cs ≡ true = ap (λ (t : Bool). t || is_member b cs) (sym is) ∙ same b ∙ member-first b ds in
+          absurd (omega (arith, member-below a (key b) ds fall'.0 later, member-below b (key a) cs fall.0 later'))
 
   below-filter : (p : ℕ → Bool) (k : ℕ) (zs : List ℕ) → Below k zs → Below k (filter p zs)
   below-filter p k [] all = tt
@@ -137,13 +138,13 @@ falls-raised key key' [] raised fall = tt
 falls-raised key key' (z ∷ zs) raised fall = (subst (λ k. Below key' k zs) (sym raised.0) (below-raised key key' (key z) zs raised.1 fall.0), falls-raised key key' zs raised.1 fall.1)
 
 member-reverse : (x : ℕ) (xs : List ℕ) → is_member x (reverse xs) ≡ is_member x xs
-member-reverse x xs = list_any-IsPermutation (λ y. y == x) xs (reverse xs) (IsPermutation-reverse xs)
+member-reverse x xs = sym (list_any-IsPermutation (λ y. y == x) xs (reverse xs) (IsPermutation-reverse xs))
 
 -- the places fall in the list the other way round
 falls-reverse : (xs : List ℕ) → StandOnce xs → Falls (place_in xs) (reverse xs)
 falls-reverse [] once = tt
 falls-reverse (x ∷ xs) once =
-    subst (Falls (place_in (x ∷ xs))) (sym (reverse-cons x xs))
+    subst (Falls (place_in (x ∷ xs))) (sym (reverse-append (x ∷ []) xs))
     (falls-more (place_in (x ∷ xs)) x (reverse xs)
     (falls-raised (place_in xs) (place_in (x ∷ xs)) (reverse xs) raised (falls-reverse xs (once-tail x xs once)))
     above)
@@ -172,7 +173,7 @@ falls-sorted : (xs zs : List ℕ) → StandOnce zs → ((x : ℕ) → is_member 
 falls-sorted xs [] once within sorted = tt
 falls-sorted xs (z ∷ zs) once within sorted = (
   below,
-  falls-sorted xs zs (once-tail z zs once) (λ x there. within x (or_second (z == x) (is_member x zs) there)) (λ k d low inside. sorted (suc k) d (omega arith) (omega arith)),
+  falls-sorted xs zs (once-tail z zs once) (λ x there. within x (or_second (z == x) (is_member x zs) there)) (λ k d low inside. let next : suc k + 1 ≡ suc (k + 1) = omega arith in subst (λ n. lies_above xs (get_or (z ∷ zs) n d) (get_or zs k d) ≡ false) next (sorted (suc k) d (omega arith) (omega arith))),
 )
   where
     below : Below (place_in xs) (place_in xs z) zs

@@ -72,11 +72,11 @@ later-member i j (x ∷ xs) none = by_test (later-member i j xs) (x == j) (x == 
 
 -- the others stand once too
 pub once-tail : (x : ℕ) (xs : List ℕ) → StandOnce (x ∷ xs) → StandOnce xs
-pub once-tail x xs once n = omega (arith, once n)
+once-tail x xs once n = omega (arith, once n)
 
 -- and the first is not among them
 pub once-head : (x : ℕ) (xs : List ℕ) → StandOnce (x ∷ xs) → is_member x xs ≡ false
-pub once-head x xs once = times-none x xs (let same : (x == x) ≡ true = grind (arith, nat_tests) in let told : (if x == x then 1 else 0) + times x xs ≤ 1 = once x in let told' : 1 + times x xs ≤ 1 = rw same at told in omega (arith, told'))
+once-head x xs once = times-none x xs (let same : (x == x) ≡ true = grind (arith, nat_tests) in let told : (if x == x then 1 else 0) + times x xs ≤ 1 = once x in let told' : 1 + times x xs ≤ 1 = rw same at told in omega (arith, told'))
 
 -- of two members the one that is earlier has the lesser place
 pub earlier-places : (xs : List ℕ) (i j : ℕ) → StandOnce xs → is_member i xs ≡ true → is_member j xs ≡ true → is_earlier i j xs ≡ nat_lt (place_in xs i) (place_in xs j)

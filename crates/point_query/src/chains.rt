@@ -1,46 +1,70 @@
-ghost use Rattle.std.specs.Prelude.{◌≡◌, ◌≤◌, IsTrue, IfOk, length};
+ghost use Rattle.std.specs.Prelude.{◌≡◌, ◌+◌, ◌≤◌, IsTrue, length, take, reverse};
 ghost use Rattle.box_tree.specs.Contents.{has_id};
 ghost use Rattle.point_query.specs.Chain.{chain_of};
 
 use box_tree::Page;
 use fractions::{Ledger, Steps};
-use std::alloc::Global;
-use tree_edits::{Engine, OutOfMemory};
+use tree_edits::Engine;
 
 /// The chain of an element of the page: its ancestors and the element itself, root first.
 ///
-/// It takes a step and memory for each member, of which there are at most 256, and leaves the page as it is.
-pub fn chain<L: Ledger>(
-    alloc: Global,
+/// It is written into the room, whatever that holds, and takes no memory. It takes a step for each member.
+pub fn chain<'a, L: Ledger>(
     engine: &Engine,
+    room: &'a mut [u32],
     id: u32,
     steps: &mut Steps<L>,
-) -> Result<Vec<u32>, OutOfMemory>
-    requires { IsTrue (has_id engine.now.contents id) }
-    ensures chain { IfOk result (λ ids. ids.items ≡ chain_of engine.now.contents id) }
-    ensures short { IfOk result (λ ids. length ids.items ≤ 256) }
+) -> &'a [u32]
+    requires there { IsTrue (has_id engine.now.contents id) }
+    requires room { 256 ≤ length room.old }
+    ensures chain { result.now ≡ chain_of engine.now.contents id }
+    ensures short { length result.now ≤ 256 }
+    ensures cost { steps.new ≤ steps.old + 256 }
 {
-    chain_in(alloc, engine.page(), id, steps)
+    chain_in(engine.page(), room, id, steps)
 }
 
 // The same on the page.
-fn chain_in<L: Ledger>(
-    alloc: Global,
+fn chain_in<'a, L: Ledger>(
     page: &Page,
+    room: &'a mut [u32],
     id: u32,
     steps: &mut Steps<L>,
-) -> Result<Vec<u32>, OutOfMemory>
-    requires { IsTrue (has_id page.now.contents id) }
-    ensures chain { IfOk result (λ ids. ids.items ≡ chain_of page.now.contents id) }
-    ensures short { IfOk result (λ ids. length ids.items ≤ 256) }
+) -> &'a [u32]
+    requires there { IsTrue (has_id page.now.contents id) }
+    requires room { 256 ≤ length room.old }
+    ensures chain { result.now ≡ chain_of page.now.contents id }
+    ensures short { length result.now ≤ 256 }
+    ensures cost { steps.new ≤ steps.old + 256 }
+{
+    let count = write_upwards(page, room, id, steps);
+    let chain = &mut room[..count];
+    chain.reverse();
+    chain
+}
+
+// Writes the ids of a node and of its ancestors, from the node on up, and answers how many they are.
+fn write_upwards<L: Ledger>(
+    page: &Page,
+    room: &mut [u32],
+    id: u32,
+    steps: &mut Steps<L>,
+) -> usize
+    requires there { IsTrue (has_id page.now.contents id) }
+    requires room { 256 ≤ length room.old }
+    ensures ids { reverse (take result room.new) ≡ chain_of page.now.contents id }
+    ensures len { length room.new ≡ length room.old }
+    ensures short { result ≤ 256 }
+    ensures cost { steps.new ≡ steps.old + result }
 {
     page.validity();
-    let mut ids = Vec::new(alloc);
+    let mut count = 0;
     let mut above = id;
     while above != 0 {
-        ids.push(above)?;
-        above = page.node(above, steps).parent;
+        let parent = page.node(above, steps).parent;
+        room[count] = above;
+        count += 1;
+        above = parent;
     }
-    ids.reverse();
-    Ok(ids)
+    count
 }
