@@ -10,3 +10,4 @@ pub mod NearLemmas
 pub mod HeapLemmas
 pub mod TopmostLemmas
 pub mod OrderLemmas
+pub mod LayerLemmas
