@@ -11,3 +11,4 @@ pub mod HeapLemmas
 pub mod TopmostLemmas
 pub mod OrderLemmas
 pub mod LayerLemmas
+pub mod KeptLemmas

@@ -22,7 +22,7 @@ member-at [] k d within = absurd (omega arith)
 member-at (x ∷ xs) zero d within = member-first x xs
 member-at (x ∷ xs) (suc k) d within = or_second (x == get_or xs k d) (is_member (get_or xs k d) xs) (member-at xs k d (omega arith))
 
-member-filter : (p : ℕ → Bool) (x : ℕ) (zs : List ℕ) → is_member x (filter p zs) ≡ (is_member x zs && p x)
+pub member-filter : (p : ℕ → Bool) (x : ℕ) (zs : List ℕ) → is_member x (filter p zs) ≡ (is_member x zs && p x)
 member-filter p x [] = refl
 member-filter p x (z ∷ zs) = by_tests (p z) (z == x) refl refl (member-filter p x zs)
   where

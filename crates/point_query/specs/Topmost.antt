@@ -1,5 +1,5 @@
 -- Items by their numbers, topmost first, as a forest of lists orders them.
-use Rattle.std.specs.Prelude.{◌≤◌, ℕ, ◌+◌, ◌==◌, nat_lt, List, [], ◌∷◌, Bool, IsTrue, map, slice_index_or, if◌then◌else◌}
+use Rattle.std.specs.Prelude.{◌≤◌, ℕ, ◌+◌, ◌==◌, nat_lt, List, [], ◌∷◌, Bool, IsTrue, Option, None, Some, map, slice_index_or, if◌then◌else◌}
 use Rattle.box_tree.specs.declared.item.Item.{Item}
 use Rattle.box_tree.specs.declared.item.Part.TheVariants.{Box}
 use Rattle.box_tree.specs.Numbers.{ItemsState}
@@ -44,3 +44,8 @@ item_named s n = slice_index_or s.given n (record { node = 0; part = Box 0 })
 
 abbrev pub items_named : ItemsState → List ℕ → List Item
 items_named s numbers = map (item_named s) numbers
+
+-- an id where there is one that isn't one of these
+abbrev pub if_new : List ℕ → Option ℕ → List ℕ
+if_new ids None = []
+if_new ids (Some id) = if is_member id ids then [] else id ∷ []

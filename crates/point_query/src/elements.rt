@@ -1,69 +1,107 @@
-ghost use Rattle.std.specs.Prelude.{◌≡◌, ◌↔◌, ◌⊎◌, false, IsNone, ◌++◌, ◌∷◌, [], ◌&&◌, int_le, if◌then◌else◌, IsTrue, IfOk};
-ghost use Rattle.std.specs.Option.{option_to_list};
-ghost use Rattle.box_tree.specs.Contents.{IsWithin};
+ghost use Rattle.std.specs.Prelude.{◌≡◌, ◌↔◌, ◌⊎◌, ◌+◌, ◌≤◌, false, IsNone, [], ◌∷◌, ◌&&◌, int_le, length, take, reverse, All};
+ghost use Rattle.box_tree.specs.Contents.{IsWithin, IsValid};
 ghost use Rattle.box_tree.specs.Forest.{roots_of};
+ghost use Rattle.box_tree.specs.Items.{item_count};
+ghost use Rattle.box_tree.specs.Numbers.{IsNumber};
 ghost use Rattle.spaces.specs.Table.{IsTableOf};
-ghost use Rattle.point_query.specs.Elements.{elements_of, elements_from_point, element_from_point, each_once, is_inside, then_root, ends_with};
+ghost use Rattle.stacking.specs.OnPage.{of_node};
+ghost use Rattle.stacking.specs.Painting.{layer};
+ghost use Rattle.tree_edits.specs.Faithful.{IsForestOf};
+ghost use Rattle.point_query.specs.Elements.{elements_of, elements_from_point, element_from_point, is_inside};
+ghost use Rattle.point_query.specs.Topmost.{items_named};
 
-use crate::admission::admitted_element;
-use box_tree::{Item, Page, Viewport};
+use crate::candidates::candidates;
+use crate::kept::{end_with, first_admitted, keep_admitted};
+use crate::topmost::order_topmost_first;
+use box_tree::{Page, Viewport};
 use fractions::{Ledger, Steps};
+use paint_order::Forest;
 use spaces::SpaceTable;
-use stacking::layer_of;
-use std::alloc::Global;
-use std::collections::BTreeSet;
-use tree_edits::{Engine, OutOfMemory};
 
-/// The elements under a point of the viewport, in units, from top to bottom (CSSOM View, `elementsFromPoint`).
-///
-/// Empty outside the viewport and without a root. It takes memory for the items of the page, and leaves the page as it is.
-pub fn hit<L: Ledger>(
-    alloc: Global,
-    engine: &Engine,
+// Writes the elements from a point, by the table and the forest of the page, and answers how many they are.
+fn write_elements<L: Ledger>(
+    page: &Page,
+    spaces: &SpaceTable,
+    forest: &Forest,
+    room: &mut [u32],
     x: i64,
     y: i64,
     steps: &mut Steps<L>,
-) -> Result<Vec<u32>, OutOfMemory>
+) -> usize
+    requires table { IsTableOf spaces.now page.now.contents }
+    requires forest { IsForestOf forest.now page.now.contents page.now.items }
     requires x { IsWithin 26 x }
     requires y { IsWithin 26 y }
-    ensures { IfOk result (λ ids. ids.items ≡ elements_from_point engine.now.contents x y) }
+    requires room { item_count page.now.contents.tree + 256 ≤ length room.old }
+    ensures elements { take result room.new ≡ elements_from_point page.now.contents x y }
+    ensures within { result ≤ length room.new }
 {
-    let page = engine.page();
     let viewport = page.viewport();
     let Some(root) = page.root() else {
-        return Ok(Vec::new(alloc));
+        return 0;
     };
     if !holds_point(&viewport, x, y) {
-        return Ok(Vec::new(alloc));
+        return 0;
     }
     page.validity();
-    let Ok(mut items) = layer_of(alloc, page, root) else {
-        return Err(OutOfMemory);
-    };
-    items.reverse();
-    let elements = admitted_elements(alloc, page, engine.spaces(), &items, x, y, steps)?;
-    let mut ids = each_once(alloc, &elements)?;
-    end_with(&mut ids, root)?;
-    Ok(ids)
+    let count = topmost_first(page, forest, room, root, x, y, steps);
+    let kept = keep_admitted(page, spaces, room, count, x, y, steps);
+    end_with(room, kept, root)
 }
 
-/// The topmost element under a point of the viewport, in units (CSSOM View, `elementFromPoint`).
-///
-/// None exactly outside the viewport and without a root. It takes memory to find it, and leaves the page as it is.
-pub fn top<L: Ledger>(
-    alloc: Global,
-    engine: &Engine,
+// The first of the elements from a point, by the table and the forest of the page.
+fn topmost_element<L: Ledger>(
+    page: &Page,
+    spaces: &SpaceTable,
+    forest: &Forest,
+    room: &mut [u32],
     x: i64,
     y: i64,
     steps: &mut Steps<L>,
-) -> Result<Option<u32>, OutOfMemory>
+) -> Option<u32>
+    requires table { IsTableOf spaces.now page.now.contents }
+    requires forest { IsForestOf forest.now page.now.contents page.now.items }
     requires x { IsWithin 26 x }
     requires y { IsWithin 26 y }
-    ensures first { IfOk result (λ id. id ≡ element_from_point engine.now.contents x y) }
-    ensures none { IfOk result (λ id. IsNone id ↔ ((is_inside engine.now.contents.viewport x y ≡ false) ⊎ (roots_of engine.now.contents.tree ≡ []))) }
+    requires room { item_count page.now.contents.tree + 256 ≤ length room.old }
+    ensures first { result ≡ element_from_point page.now.contents x y }
+    ensures none { IsNone result ↔ ((is_inside page.now.contents.viewport x y ≡ false) ⊎ (roots_of page.now.contents.tree ≡ [])) }
 {
-    let ids = hit(alloc, engine, x, y, steps)?;
-    Ok(ids.first().copied())
+    let viewport = page.viewport();
+    let root = page.root()?;
+    if !holds_point(&viewport, x, y) {
+        return None;
+    }
+    page.validity();
+    let count = topmost_first(page, forest, room, root, x, y, steps);
+    let first = first_admitted(page, spaces, &room[..count], x, y, steps);
+    Some(first.unwrap_or(root))
+}
+
+// Writes the numbers of the items that may be admitted at a point, the topmost first, and answers how many they are. The
+// elements of these items are those of the layer of the root from top to bottom.
+fn topmost_first<L: Ledger>(
+    page: &Page,
+    forest: &Forest,
+    room: &mut [u32],
+    root: u32,
+    x: i64,
+    y: i64,
+    steps: &mut Steps<L>,
+) -> usize
+    requires forest { IsForestOf forest.now page.now.contents page.now.items }
+    requires root { roots_of page.now.contents.tree ≡ root ∷ [] }
+    requires room { item_count page.now.contents.tree ≤ length room.old }
+    ensures elements { elements_of page.now.contents x y (items_named page.now.items (take result room.new)) ≡ elements_of page.now.contents x y (reverse (of_node layer page.now.contents root)) }
+    ensures numbers { All (IsNumber page.now.items) (take result room.new) }
+    ensures fewer { result ≤ item_count page.now.contents.tree }
+    ensures len { length room.new ≡ length room.old }
+{
+    page.validity();
+    page.numbering();
+    let count = candidates(page, room, steps);
+    order_topmost_first(forest, &mut room[..count], steps);
+    count
 }
 
 // Whether the viewport holds a point, its right and lower edges too.
@@ -80,78 +118,3 @@ fn lies_between(least: i64, x: i64, most: i64) -> bool
     least <= x && x <= most
 }
 
-// The elements of those of some items that are admitted at a point, in their order, by the table of the page.
-fn admitted_elements<L: Ledger>(
-    alloc: Global,
-    page: &Page,
-    spaces: &SpaceTable,
-    items: &[Item],
-    x: i64,
-    y: i64,
-    steps: &mut Steps<L>,
-) -> Result<Vec<u32>, OutOfMemory>
-    requires table { IsTableOf spaces.now page.now.contents }
-    requires x { IsWithin 20 x }
-    requires y { IsWithin 20 y }
-    ensures { IfOk result (λ ids. ids.items ≡ elements_of page.now.contents x y items.now) }
-{
-    let mut ids = Vec::new(alloc);
-    for item in items {
-        push_some(&mut ids, admitted_element(page, spaces, *item, x, y, steps))?;
-    }
-    Ok(ids)
-}
-
-// Appends an id where there is one.
-fn push_some(ids: &mut Vec<u32>, id: Option<u32>) -> Result<(), OutOfMemory>
-    ensures { IfOk result (λ _. ids.new.items ≡ ids.old.items ++ option_to_list id) }
-{
-    if let Some(id) = id {
-        ids.push(id)?;
-    }
-    Ok(())
-}
-
-// Each id at its first place only.
-fn each_once(alloc: Global, ids: &[u32]) -> Result<Vec<u32>, OutOfMemory>
-    ensures { IfOk result (λ once. once.items ≡ each_once ids.now) }
-{
-    let mut once = Vec::new(alloc);
-    let mut seen = BTreeSet::new(alloc);
-    for id in ids {
-        let is_new = seen.insert(*id)?;
-        push_if(&mut once, *id, is_new)?;
-    }
-    Ok(once)
-}
-
-// Appends the id where that is wanted.
-fn push_if(ids: &mut Vec<u32>, id: u32, is_wanted: bool) -> Result<(), OutOfMemory>
-    ensures { IfOk result (λ _. ids.new.items ≡ ids.old.items ++ (if is_wanted then id ∷ [] else [])) }
-{
-    if is_wanted {
-        ids.push(id)?;
-    }
-    Ok(())
-}
-
-// Puts the root at the end, unless it is there already.
-fn end_with(ids: &mut Vec<u32>, root: u32) -> Result<(), OutOfMemory>
-    ensures { IfOk result (λ _. ids.new.items ≡ then_root root ids.old.items) }
-{
-    let is_there = is_last(ids, root);
-    push_if(ids, root, !is_there)
-}
-
-// Whether the root is the last member.
-fn is_last(ids: &[u32], root: u32) -> bool
-    ensures { result ≡ ends_with root ids.now }
-{
-    match ids.last() {
-        Some(last) => *last == root,
-        None => false,
-    }
-}
-
-#[cfg(test)]
-mod tests;

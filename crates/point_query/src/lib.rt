@@ -11,12 +11,13 @@
 
 mod admission;
 mod areas;
+mod candidates;
 mod chains;
 mod elements;
+mod kept;
 pub mod laws;
 mod outlines;
 mod topmost;
 
 pub use chains::chain;
-pub use elements::{hit, top};
 pub use tree_edits::OutOfMemory;
