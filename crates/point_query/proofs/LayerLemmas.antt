@@ -177,7 +177,7 @@ map-member f item (other ∷ items) some = by_test (map-member f item items) (is
     by_test rest false is = or_second (f other == f item) (is_member (f item) (map f items)) (rest (omega (arith, some, (ap {B = ℕ} (λ b. if b then 1 else 0) is))))
 
 -- a number that stands nowhere stands there no times
-times-nowhere : (n : ℕ) (xs : List ℕ) → is_member n xs ≡ false → times n xs ≡ 0
+pub times-nowhere : (n : ℕ) (xs : List ℕ) → is_member n xs ≡ false → times n xs ≡ 0
 times-nowhere n [] none = refl
 times-nowhere n (x ∷ xs) none = by_test (x == n) none (times-nowhere n xs)
   where
@@ -231,7 +231,7 @@ module _ (page : Contents) (valid : IsValid page) (s : ItemsState) (are : IsNumb
       let found = member-map (number_of s) n (root_layer page.tree) there in
       (found.0, subst (λ (k : ℕ). Names s k found.0) found.2 (number-names found.0 (layer-item found.0 found.1)))
 
-  number-in_layer : (n : ℕ) → IsNumber s n → is_member n (map (number_of s) (root_layer page.tree)) ≡ true
+  pub number-in_layer : (n : ℕ) → IsNumber s n → is_member n (map (number_of s) (root_layer page.tree)) ≡ true
   number-in_layer n is =
       subst (λ (k : ℕ). is_member k (map (number_of s) (root_layer page.tree)) ≡ true) (is.1.number_is)
       (map-member (number_of s) is.0 (root_layer page.tree) (painted-item page is.0 valid (are.only n is.0 is.1)))

@@ -12,3 +12,4 @@ pub mod TopmostLemmas
 pub mod OrderLemmas
 pub mod LayerLemmas
 pub mod KeptLemmas
+pub mod CandidateLemmas

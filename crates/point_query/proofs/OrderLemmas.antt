@@ -17,7 +17,7 @@ use Rattle.point_query.proofs.TopmostLemmas.{above-order, once-tail, once-head}
 member-first : (x : ℕ) (xs : List ℕ) → is_member x (x ∷ xs) ≡ true
 member-first x xs = or_first (x == x) (is_member x xs) (grind (arith, nat_tests))
 
-member-at : (xs : List ℕ) (k d : ℕ) → k < length xs → is_member (get_or xs k d) xs ≡ true
+pub member-at : (xs : List ℕ) (k d : ℕ) → k < length xs → is_member (get_or xs k d) xs ≡ true
 member-at [] k d within = absurd (omega arith)
 member-at (x ∷ xs) zero d within = member-first x xs
 member-at (x ∷ xs) (suc k) d within = or_second (x == get_or xs k d) (is_member (get_or xs k d) xs) (member-at xs k d (omega arith))
