@@ -1,11 +1,14 @@
 -- The numbers of the items of a page, node by node in the order of their ids.
-use Rattle.std.proofs.Common.{◌≡◌, ℕ, zero, suc, ◌+◌, ◌<◌, ◌≤◌, ◌==◌, List, [], ◌∷◌, ◌++◌, length, get_or, map, inl, inr, Option, Some, None, Bool, true, false, not, cond, if◌then◌else◌, refl, sym, ap, subst, ◌∙◌, arith}
+use Rattle.std.proofs.Common.{◌≡◌, ℕ, zero, suc, ◌+◌, ◌<◌, ◌≤◌, ◌==◌, List, [], ◌∷◌, ◌++◌, length, take, get_or, map, inl, inr, Option, Some, None, Bool, true, false, not, cond, if◌then◌else◌, refl, sym, ap, subst, ◌∙◌, arith}
 use Rattle.std.specs.Prelude.{◌&&◌, ◌||◌, All}
 use Rattle.std.specs.Option.{option_map}
-use Rattle.std.specs.List.{filter}
+use Rattle.std.specs.List.{filter, sum_by}
 use Rattle.std.proofs.lemmas.Bool.{false≢true, cases_lt}
 use Rattle.std.proofs.lemmas.Bool.Decides.{nat_tests}
-use Rattle.std.proofs.lemmas.List.{length-append, length-map}
+use Rattle.std.specs.List.Sorted.{IsPermutation}
+use Rattle.std.proofs.lemmas.List.{length-append, length-map, length-take-le, take-append-le, take_all}
+use Rattle.std.proofs.lemmas.List.Sorted.{sum_by-IsPermutation, list_any-IsPermutation, length_permutation}
+use Rattle.std.proofs.lemmas.List.Sums.{sum_by-cons}
 use Rattle.box_tree.specs.declared.item.Item.{Item}
 use Rattle.box_tree.specs.declared.item.Part.TheVariants.{Box}
 use Rattle.box_tree.specs.Forest.{Label, Forest, End, Grow, Placed}
@@ -216,3 +219,25 @@ module _ (page : Contents) (valid : IsValid page) (s : ItemsState) (are : IsNumb
     all_items_are_painted page valid (λ item. true),
     trees-count [] page.tree,
   )
+
+-- ---- numbers that are put in another order
+
+times-sum : (n : ℕ) (xs : List ℕ) → times n xs ≡ sum_by (λ x. if x == n then 1 else 0) xs
+times-sum n [] = refl
+times-sum n (x ∷ xs) = ap (λ k. (if x == n then 1 else 0) + k) (times-sum n xs) ∙ sym (sum_by-cons (λ y. if y == n then 1 else 0) x xs)
+
+pub once-permutation : (xs ys : List ℕ) → IsPermutation xs ys → StandOnce xs → StandOnce ys
+once-permutation xs ys moved once n = omega (arith, once n, times-sum n xs, times-sum n ys, sum_by-IsPermutation (λ x. if x == n then 1 else 0) xs ys moved)
+
+pub member-permutation : (n : ℕ) (xs ys : List ℕ) → IsPermutation xs ys → is_member n ys ≡ is_member n xs
+member-permutation n xs ys moved = sym (list_any-IsPermutation (λ y. y == n) xs ys moved)
+
+-- what holds of each of some numbers holds of a member
+pub all-member : (P : ℕ → Type 0) (n : ℕ) (xs : List ℕ) → All P xs → is_member n xs ≡ true → P n
+all-member P n xs all there = let at = member-place n xs there in subst P at.2 (all at.0 0 at.1)
+
+-- the front of a list, put in another order
+pub front-permutation : (n : ℕ) (xs ys rest : List ℕ) → n ≤ length xs → IsPermutation (take n xs) ys → take n (ys ++ rest) ≡ ys
+front-permutation n xs ys rest within moved =
+    let len : length ys ≡ n = length_permutation (take n xs) ys moved ∙ length-take-le n xs within in
+    take-append-le n ys rest (omega (arith, len)) ∙ take_all n ys (omega (arith, len))

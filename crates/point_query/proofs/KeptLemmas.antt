@@ -1,6 +1,6 @@
 -- Elements of items one after the other, each at its first place only.
 use Rattle.std.proofs.Common.{◌≡◌, ℕ, ◌+◌, ◌<◌, ◌==◌, ℤ, length, get_or, take, drop, slice_get, List, [], ◌∷◌, ◌++◌, map, Option, Some, None, is_some, Bool, true, false, not, cond, if◌then◌else◌, refl, sym, ap, ◌∙◌, append_assoc, arith}
-use Rattle.std.specs.Prelude.{◌||◌, ◌&&◌}
+use Rattle.std.specs.Prelude.{◌||◌, ◌&&◌, unwrap_or}
 use Rattle.std.specs.Option.{option_to_list}
 use Rattle.std.specs.List.{filter}
 use Rattle.std.proofs.lemmas.Bool.Decides.{nat_tests}
@@ -11,7 +11,7 @@ use Rattle.box_tree.specs.declared.item.Item.{Item}
 use Rattle.box_tree.specs.Contents.{Contents}
 use Rattle.box_tree.specs.Numbers.{ItemsState, Names}
 use Rattle.paint_order.specs.Order.{is_member}
-use Rattle.point_query.specs.Elements.{each_once, admits, element_of, elements_of}
+use Rattle.point_query.specs.Elements.{each_once, ends_with, then_root, admits, element_of, elements_of}
 use Rattle.point_query.specs.Topmost.{item_named, items_named, if_new}
 use Rattle.point_query.proofs.OrderLemmas.{member-filter}
 
@@ -77,3 +77,12 @@ module _ (page : Contents) (x y : ℤ) (s : ItemsState) (numbers : List ℕ) (k 
   pub elements-none : (o : Option ℕ) → elements_of page x y (items_named s (take k numbers)) ≡ [] → option_to_list o ≡ elements_of page x y (item ∷ []) → is_some o ≡ false → elements_of page x y (items_named s (take (k + 1) numbers)) ≡ []
   elements-none None none is nothing = elements-more ∙ ap (λ (ids : List ℕ). ids ++ elements_of page x y (item ∷ [])) none ∙ sym is
   elements-none (Some e) none is nothing = absurd cc
+
+-- the first of some elements, each once, and then of the root
+pub first-then_root : (root : ℕ) (ids : List ℕ) → Some (unwrap_or (slice_get ids 0) root) ≡ slice_get (then_root root (each_once ids)) 0
+first-then_root root [] = refl
+first-then_root root (id ∷ ids) = by_test (ends_with root (each_once (id ∷ ids)))
+  where
+    by_test : (b : Bool) → Some id ≡ slice_get (if b then each_once (id ∷ ids) else each_once (id ∷ ids) ++ root ∷ []) 0
+    by_test true = refl
+    by_test false = refl
