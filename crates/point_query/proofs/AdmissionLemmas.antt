@@ -1,5 +1,5 @@
 -- The element of one item, by its node as a reader sees it.
-use Rattle.std.proofs.Common.{◌≡◌, ℕ, ℤ, List, [], ◌∷◌, map, Option, Some, None, IsSome, Bool, true, false, cond, is_some, if◌then◌else◌, refl, sym, ap, subst, ◌∙◌}
+use Rattle.std.proofs.Common.{◌≡◌, ℕ, ℤ, List, [], ◌∷◌, map, Option, Some, None, IsSome, Bool, true, false, cond, if◌then◌else◌, refl, sym, ap, subst, ◌∙◌}
 use Rattle.std.specs.Prelude.{◌&&◌, IfSome}
 use Rattle.std.specs.Option.{option_map, option_map_or}
 use Rattle.computed_style.specs.declared.inherited.Inherited.{Inherited}
@@ -7,7 +7,7 @@ use Rattle.computed_style.specs.Ranges.{IsSide}
 use Rattle.box_tree.specs.declared.item.Item.{Item}
 use Rattle.box_tree.specs.declared.node.Node.{Node}
 use Rattle.box_tree.specs.Forest.{Label, Placed}
-use Rattle.box_tree.specs.Contents.{Contents, placed_of, node_of, has_id, parent_id, IsValid}
+use Rattle.box_tree.specs.Contents.{Contents, node_of, parent_id, IsValid}
 use Rattle.box_tree.specs.Kept.{label_of}
 use Rattle.box_tree.proofs.PlacedLemmas.{IsSeenAt, seen_at}
 use Rattle.spaces.specs.declared.space.FinePoint.{FinePoint}

@@ -13,7 +13,7 @@ use Rattle.box_tree.specs.declared.item.Item.{Item}
 use Rattle.box_tree.specs.declared.item.Part.TheVariants.{Box}
 use Rattle.box_tree.specs.Forest.{Label, Forest, End, Grow, Placed}
 use Rattle.box_tree.specs.Contents.{Contents, node_at, placed_of, IsValid, IsGiven}
-use Rattle.box_tree.specs.Items.{items_of, items_at, node_items, item_count}
+use Rattle.box_tree.specs.Items.{items_at, node_items, item_count}
 use Rattle.box_tree.specs.Numbers.{ItemsState, numbers_of, Names, IsNumber, IsItem, IsNumberedPage, place_of}
 use Rattle.box_tree.proofs.MoveLemmas.{each-placed}
 use Rattle.box_tree.proofs.NumberedPages.{are_placed}
@@ -23,7 +23,7 @@ use Rattle.paint_order.proofs.FlatLemmas.{or_first, or_second}
 use Rattle.stacking.specs.Painting.{own, drawn}
 use Rattle.stacking.specs.Counting.{count, items_in, root_layer}
 use Rattle.stacking.specs.Lists.{number_of}
-use Rattle.stacking.proofs.CountLemmas.{count-append, all_items_are_painted}
+use Rattle.stacking.proofs.CountLemmas.{all_items_are_painted}
 use Rattle.point_query.specs.Topmost.{times, StandOnce}
 use Rattle.point_query.proofs.TopmostLemmas.{once-tail, once-head}
 use Rattle.point_query.proofs.OrderLemmas.{member-at, member-filter}

@@ -1,5 +1,5 @@
 -- The chain of an element by a walk from parent to parent.
-use Rattle.std.proofs.Common.{◌≡◌, ◌≤◌, ◌<◌, ℕ, List, [], ◌∷◌, ◌++◌, length, map, reverse, Option, Some, None, refl, sym, ap, ◌∙◌, append_assoc, arith}
+use Rattle.std.proofs.Common.{◌≡◌, ◌≤◌, ℕ, List, [], ◌∷◌, ◌++◌, length, map, reverse, Option, Some, None, refl, sym, ap, ◌∙◌, append_assoc, arith}
 use Rattle.std.specs.Option.{option_map_or}
 use Rattle.std.proofs.lemmas.List.{append-nil, length-map, length-reverse}
 use Rattle.box_tree.specs.declared.node.Node.{Node}
@@ -7,7 +7,7 @@ use Rattle.box_tree.specs.Forest.{Label, Placed}
 use Rattle.box_tree.specs.Contents.{Contents, placed_of, node_of, IsValid}
 use Rattle.box_tree.specs.Edited.{ancestors_below}
 use Rattle.box_tree.proofs.AddLemmas.{ancestors_below-none}
-use Rattle.box_tree.proofs.ContainingLemmas.{place_is, standing, ancestors-seen, above-seen}
+use Rattle.box_tree.proofs.ContainingLemmas.{place_is, ancestors-seen, above-seen}
 use Rattle.box_tree.proofs.PlacedLemmas.{depth-placed_in}
 use Rattle.box_tree.proofs.PlanLemmas.{id-placed_in}
 use Rattle.point_query.specs.Chain.{chain_of}

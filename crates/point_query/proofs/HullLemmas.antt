@@ -3,7 +3,7 @@
 use Rattle.std.proofs.Common.{ℕ, zero, suc, ◌≡◌, ℤ, pos, negsuc, ◌+ℤ◌, ◌*ℤ◌, ◌<ℤ◌, ◌≤ℤ◌, neg_ℤ, Some, arith, ap, ◌∙◌, sym, subst}
 use Rattle.std.proofs.lemmas.Int.{ints, clamps}
 use Rattle.std.specs.Int.{int_max, int_min}
-use Rattle.whole_numbers.proofs.Products.{mul_assoc, mul-neg, le-mul, lt-mul, at_least_zero, le-cancel, lt-cancel, mul-positive}
+use Rattle.whole_numbers.proofs.Products.{mul_assoc, mul-neg, le-mul, at_least_zero, le-cancel, lt-cancel, mul-positive}
 use Rattle.fractions.specs.declared.rect.Rect.{Rect}
 use Rattle.fractions.specs.Rect.{Holds}
 use Rattle.fractions.specs.Division.{IsFloor}

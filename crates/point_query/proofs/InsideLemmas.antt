@@ -1,6 +1,5 @@
 -- A point inside the viewport has small coordinates.
-use Rattle.std.proofs.Common.{◌≡◌, ℤ, pos, ◌≤ℤ◌, true, arith}
-use Rattle.std.specs.Prelude.{int_le, ◌&&◌}
+use Rattle.std.proofs.Common.{◌≡◌, ℤ, true, arith}
 use Rattle.std.proofs.lemmas.Int.{ints}
 use Rattle.box_tree.specs.declared.viewport.Viewport.{Viewport}
 use Rattle.box_tree.specs.Contents.{IsWithin, IsViewport}

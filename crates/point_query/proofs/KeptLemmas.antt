@@ -1,5 +1,5 @@
 -- Elements of items one after the other, each at its first place only.
-use Rattle.std.proofs.Common.{◌≡◌, ℕ, ◌+◌, ◌<◌, ◌==◌, ℤ, length, get_or, take, drop, slice_get, List, [], ◌∷◌, ◌++◌, map, Option, Some, None, is_some, Bool, true, false, not, cond, if◌then◌else◌, refl, sym, ap, ◌∙◌, append_assoc, arith}
+use Rattle.std.proofs.Common.{◌≡◌, ℕ, ◌+◌, ◌<◌, ◌==◌, ℤ, length, get_or, take, drop, slice_get, List, [], ◌∷◌, ◌++◌, map, Option, Some, None, is_some, Bool, true, false, not, if◌then◌else◌, refl, sym, ap, ◌∙◌, arith}
 use Rattle.std.specs.Prelude.{◌||◌, ◌&&◌, unwrap_or}
 use Rattle.std.specs.Option.{option_to_list}
 use Rattle.std.specs.List.{filter}
@@ -67,10 +67,10 @@ module _ (page : Contents) (x y : ℤ) (s : ItemsState) (numbers : List ℕ) (k 
   elements-first (Some e) none is some =
       let rest = elements_of page x y (items_named s (drop (k + 1) numbers)) in
       let all : elements_of page x y (items_named s numbers) ≡ e ∷ rest =
-          ap (λ (ns : List ℕ). elements_of page x y (items_named s ns)) (sym (take-append-drop (k + 1) numbers))
-          ∙ ap (elements_of page x y) (map-append (item_named s) (take (k + 1) numbers) (drop (k + 1) numbers))
-          ∙ elements_of-append page x y (items_named s (take (k + 1) numbers)) (items_named s (drop (k + 1) numbers))
-          ∙ ap (λ (ids : List ℕ). ids ++ rest) (elements-more ∙ ap (λ (ids : List ℕ). ids ++ elements_of page x y (item ∷ [])) none ∙ sym is) in
+      ap (λ (ns : List ℕ). elements_of page x y (items_named s ns)) (sym (take-append-drop (k + 1) numbers))
+      ∙ ap (elements_of page x y) (map-append (item_named s) (take (k + 1) numbers) (drop (k + 1) numbers))
+      ∙ elements_of-append page x y (items_named s (take (k + 1) numbers)) (items_named s (drop (k + 1) numbers))
+      ∙ ap (λ (ids : List ℕ). ids ++ rest) (elements-more ∙ ap (λ (ids : List ℕ). ids ++ elements_of page x y (item ∷ [])) none ∙ sym is) in
       sym (ap (λ (ids : List ℕ). slice_get ids 0) all)
 
   -- where this one isn't admitted either, none is

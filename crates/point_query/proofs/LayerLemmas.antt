@@ -1,5 +1,5 @@
 -- The forest of a page has the numbers of the items of the page, each once, from bottom to top.
-use Rattle.std.proofs.Common.{◌≡◌, ℕ, zero, suc, ◌+◌, ◌<◌, ◌≤◌, ◌==◌, List, [], ◌∷◌, ◌++◌, map, reverse, length, Option, Some, None, get_or, Bool, true, false, IsTrue, cond, if◌then◌else◌, refl, sym, ap, subst, ◌∙◌, arith, ℤ, append_assoc}
+use Rattle.std.proofs.Common.{◌≡◌, ℕ, zero, suc, ◌+◌, ◌<◌, ◌≤◌, ◌==◌, List, [], ◌∷◌, ◌++◌, map, reverse, length, Option, Some, None, get_or, Bool, true, false, cond, if◌then◌else◌, refl, sym, ap, subst, ◌∙◌, arith, ℤ, append_assoc}
 use Rattle.std.specs.Prelude.{◌&&◌, ◌||◌, Contains}
 use Rattle.std.specs.Option.{option_map, option_map_or, option_or}
 use Rattle.std.specs.List.{filter, list_any, AllByRecursion}
@@ -22,7 +22,7 @@ use Rattle.box_tree.specs.Numbers.{ItemsState, Names, IsItem, IsNumber, IsNumber
 use Rattle.box_tree.proofs.ForestLemmas.{placed_in-head}
 use Rattle.box_tree.proofs.NumberedPages.{are_placed}
 use Rattle.box_tree.proofs.PlacedLemmas.{AreAtPlaces, page-at_places}
-use Rattle.paint_order.specs.Order.{is_member, flattened, IsWhole, NestWithin}
+use Rattle.paint_order.specs.Order.{is_member, flattened, IsWhole}
 use Rattle.paint_order.specs.State.{State}
 use Rattle.paint_order.proofs.FlatLemmas.{or_first, or_second}
 use Rattle.tree_edits.specs.Faithful.{root_number, is_bare, IsForestOf}
@@ -105,9 +105,9 @@ module _ (page : Contents) (valid : IsValid page) where
       let same : node_items page n.id ≡ items_of n = ap (λ (o : Option Placed). items_at (option_map node_at o)) found in
       subst (λ (items : List Item). AllByRecursion (IsItem page) items) same
       (recursion_from_All (IsItem page) (node_items page n.id) (λ k d within.
-          let item = get_or (node_items page n.id) k d in
-          let node_is : item.node ≡ n.id = (are_placed page valid n.id k d within).0 in
-          subst (λ (id : ℕ). Contains (node_items page id) item) (sym node_is) (k, within, get_or_default (node_items page n.id) k item d within)))
+      let item = get_or (node_items page n.id) k d in
+      let node_is : item.node ≡ n.id = (are_placed page valid n.id k d within).0 in
+      subst (λ (id : ℕ). Contains (node_items page id) item) (sym node_is) (k, within, get_or_default (node_items page n.id) k item d within)))
 
   trees-items : (above : List Label) (f : Forest) → AreAtPlaces page above f → AllByRecursion (IsItem page) (items_in above f)
   trees-items above End known = tt
@@ -208,9 +208,6 @@ module _ (page : Contents) (valid : IsValid page) (s : ItemsState) (are : IsNumb
           let t'' : (number_of s other == number_of s item) ≡ true = grind (arith, nat_tests) in
           t'' ∙ sym t'
 
-  numbers : List ℕ
-  numbers = map (number_of s) (root_layer page.tree)
-
   layer-item : (item : Item) → 0 < count (is_item item) (root_layer page.tree) → IsItem page item
   layer-item = counted-each (IsItem page) (root_layer page.tree) (layer-items page valid)
 
@@ -267,8 +264,7 @@ root-layer page root is = of_tree page.tree is
     of_tree End is' = absurd cc
     of_tree (Grow n below others) is' =
         let same : n.id ≡ root = cc in
-        let found : placed_in [] (Grow n below others) root ≡ Some (record { label = n; above = []; below = below }) = ap (λ (id : ℕ). placed_in [] (Grow n below others) id) (sym same) ∙ placed_in-head n below others [] in
-        (
+        let found : placed_in [] (Grow n below others) root ≡ Some (record { label = n; above = []; below = below }) = ap (λ (id : ℕ). placed_in [] (Grow n below others) id) (sym same) ∙ placed_in-head n below others [] in (
           ap (λ (o : Option Placed). option_map_or layer o []) found,
           (
             ap (λ (o : Option Placed). option_map_or (λ p. is_real_context (parent_of p.above) p.label) o false) found,
@@ -309,8 +305,8 @@ module _ (page : Contents) (valid : IsValid page) (s : ItemsState) (are : IsNumb
   elements-topmost_first x y numbers once' sorted within all =
       let xs = map (number_of s) (root_layer page.tree) in
       let passed : filter p numbers ≡ filter p (reverse xs) = passed-topmost_first p xs numbers (numbers-once page valid s are) once' (subst (λ (ns : List ℕ). IsSortedBy (lies_above ns) numbers) painted-is sorted)
-          (λ n there. number-in_layer page valid s are n (within n there))
-          (λ n there passes. let is = layer-number page valid s are n there in all n is.0 is.1 (ap (admits page x y) (sym (get_or_from_slice_get s.given n is.0 _ is.1.given_to)) ∙ passes)) in
+      (λ n there. number-in_layer page valid s are n (within n there))
+      (λ n there passes. let is = layer-number page valid s are n there in all n is.0 is.1 (ap (admits page x y) (sym (get_or_from_slice_get s.given n is.0 _ is.1.given_to)) ∙ passes)) in
       ap (map (element_of page x y)) (filter-map (admits page x y) (item_named s) numbers ∙ ap (map (item_named s)) passed ∙ sym (filter-map (admits page x y) (item_named s) (reverse xs)))
       ∙ ap (elements_of page x y) (map-reverse (item_named s) xs ∙ ap (λ (is : List Item). reverse is) (named-numbers page valid s are (root_layer page.tree) (layer-items page valid) ∙ sym (root-layer page root rooted).0))
     where

@@ -1,6 +1,4 @@
 pub mod ChainLemmas
-pub mod RootLemmas
-pub mod OnceLemmas
 pub mod AdmissionLemmas
 pub mod InsideLemmas
 pub mod HullLemmas

@@ -1,5 +1,5 @@
 -- Numbers that are ordered by a list, topmost first: what of them passes a test is what of the list does, the other way round.
-use Rattle.std.proofs.Common.{◌≡◌, ℕ, zero, suc, ◌+◌, ◌<◌, ◌≤◌, ◌==◌, nat_lt, add-one, List, [], ◌∷◌, ◌++◌, reverse, length, get_or, Bool, true, false, cond, if◌then◌else◌, refl, sym, ap, subst, ◌∙◌, arith}
+use Rattle.std.proofs.Common.{◌≡◌, ℕ, zero, suc, ◌+◌, ◌<◌, ◌==◌, nat_lt, List, [], ◌∷◌, ◌++◌, reverse, length, get_or, Bool, true, false, cond, if◌then◌else◌, refl, sym, ap, subst, ◌∙◌, arith}
 use Rattle.std.specs.Prelude.{◌&&◌, ◌||◌}
 use Rattle.std.specs.List.{filter, AllByRecursion}
 use Rattle.std.specs.List.Sorted.{IsSortedBy}
@@ -163,10 +163,10 @@ falls-reverse (x ∷ xs) once =
     above : AllByRecursion (λ y. place_in (x ∷ xs) x < place_in (x ∷ xs) y) (reverse xs)
     above = recursion_from_All (λ y. place_in (x ∷ xs) x < place_in (x ∷ xs) y) (reverse xs)
         (λ k d within.
-            let y = get_or (reverse xs) k d in
-            let is : (x == y) ≡ false = apart y (member-at (reverse xs) k d within) in
-            let is' : (x == x) ≡ true = grind (arith, nat_tests) in
-            rw (is, is') (omega arith))
+        let y = get_or (reverse xs) k d in
+        let is : (x == y) ≡ false = apart y (member-at (reverse xs) k d within) in
+        let is' : (x == x) ≡ true = grind (arith, nat_tests) in
+        rw (is, is') (omega arith))
 
 -- and in numbers of the list that are ordered by it
 falls-sorted : (xs zs : List ℕ) → StandOnce zs → ((x : ℕ) → is_member x zs ≡ true → is_member x xs ≡ true) → IsSortedBy (lies_above xs) zs → Falls (place_in xs) zs

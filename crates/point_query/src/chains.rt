@@ -44,12 +44,7 @@ fn chain_in<'a, L: Ledger>(
 }
 
 // Writes the ids of a node and of its ancestors, from the node on up, and answers how many they are.
-fn write_upwards<L: Ledger>(
-    page: &Page,
-    room: &mut [u32],
-    id: u32,
-    steps: &mut Steps<L>,
-) -> usize
+fn write_upwards<L: Ledger>(page: &Page, room: &mut [u32], id: u32, steps: &mut Steps<L>) -> usize
     requires there { IsTrue (has_id page.now.contents id) }
     requires room { 256 ≤ length room.old }
     ensures ids { reverse (take result room.new) ≡ chain_of page.now.contents id }

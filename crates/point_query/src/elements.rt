@@ -17,6 +17,45 @@ use box_tree::{Page, Viewport};
 use fractions::{Ledger, Steps};
 use paint_order::Forest;
 use spaces::SpaceTable;
+use tree_edits::Engine;
+
+/// The elements under a point of the viewport, in units, from top to bottom (CSSOM View, `elementsFromPoint`).
+///
+/// Empty outside the viewport and without a root. They are written into the room, whatever that holds; it takes no memory.
+pub fn hit<'a, L: Ledger>(
+    engine: &Engine,
+    room: &'a mut [u32],
+    x: i64,
+    y: i64,
+    steps: &mut Steps<L>,
+) -> &'a [u32]
+    requires x { IsWithin 26 x }
+    requires y { IsWithin 26 y }
+    requires room { item_count engine.now.contents.tree + 256 ≤ length room.old }
+    ensures { result.now ≡ elements_from_point engine.now.contents x y }
+{
+    let count = write_elements(engine.page(), engine.spaces(), engine.forest(), room, x, y, steps);
+    &room[..count]
+}
+
+/// The topmost element under a point of the viewport, in units (CSSOM View, `elementFromPoint`).
+///
+/// None exactly outside the viewport and without a root. It works in the room, whatever that holds, and takes no memory.
+pub fn top<L: Ledger>(
+    engine: &Engine,
+    room: &mut [u32],
+    x: i64,
+    y: i64,
+    steps: &mut Steps<L>,
+) -> Option<u32>
+    requires x { IsWithin 26 x }
+    requires y { IsWithin 26 y }
+    requires room { item_count engine.now.contents.tree + 256 ≤ length room.old }
+    ensures first { result ≡ element_from_point engine.now.contents x y }
+    ensures none { IsNone result ↔ ((is_inside engine.now.contents.viewport x y ≡ false) ⊎ (roots_of engine.now.contents.tree ≡ [])) }
+{
+    topmost_element(engine.page(), engine.spaces(), engine.forest(), room, x, y, steps)
+}
 
 // Writes the elements from a point, by the table and the forest of the page, and answers how many they are.
 fn write_elements<L: Ledger>(
@@ -118,3 +157,5 @@ fn lies_between(least: i64, x: i64, most: i64) -> bool
     least <= x && x <= most
 }
 
+#[cfg(test)]
+mod tests;

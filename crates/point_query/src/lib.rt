@@ -20,4 +20,4 @@ mod outlines;
 mod topmost;
 
 pub use chains::chain;
-pub use tree_edits::OutOfMemory;
+pub use elements::{hit, top};

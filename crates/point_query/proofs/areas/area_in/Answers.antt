@@ -1,7 +1,7 @@
 -- A point that a curve holds lies between its edges, so it is near enough to be counted from the corner.
-use Rattle.std.proofs.Common.{◌≡◌, ◌≤◌, ◌^◌, ℤ, Bool, true, None, Option, ℕ, unsigned_abs, if◌then◌else◌, sym, ap, ◌∙◌, arith}
+use Rattle.std.proofs.Common.{◌≡◌, ◌≤◌, ◌^◌, ℤ, Bool, true, None, unsigned_abs, if◌then◌else◌, sym, ap, ◌∙◌, arith}
 use Rattle.std.proofs.lemmas.Int.{ints}
-use mir.Syntax.{w64, w128}
+use mir.Syntax.{w128}
 use mir.Val.{to_z, of_z}
 use Rattle.corner_shapes.specs.declared.rounded.Rounded.{Rounded}
 use Rattle.corner_shapes.specs.Curve.{InRounded, IsMeasured}

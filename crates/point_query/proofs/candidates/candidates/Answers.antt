@@ -1,7 +1,7 @@
 -- The numbers of one node more.
 use Rattle.std.proofs.Common.{◌≡◌, ◌+◌, ◌≤◌, ◌++◌, ℕ, List, length, take, refl, sym, ap, subst, ◌∙◌, add-one, arith, suc}
 use Rattle.std.proofs.lemmas.List.{length-append}
-use Rattle.box_tree.specs.Numbers.{IsNumber, numbers_of}
+use Rattle.box_tree.specs.Numbers.{numbers_of}
 use Rattle.paint_order.specs.Order.{is_member}
 use Rattle.point_query.specs.Topmost.{StandOnce}
 use Rattle.point_query.proofs.OrderLemmas.{member-at}

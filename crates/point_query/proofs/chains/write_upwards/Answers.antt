@@ -1,5 +1,5 @@
 -- One member more is written.
-use Rattle.std.proofs.Common.{◌≡◌, ◌<◌, ℕ, List, length, reverse, take, sym, ap, ◌∙◌, arith}
+use Rattle.std.proofs.Common.{◌≡◌, ◌<◌, ℕ, List, length, reverse, take, ap, ◌∙◌, arith}
 use Rattle.std.proofs.lemmas.List.{length-reverse, take_more_set}
 use Rattle.box_tree.proofs.ContainingLemmas.{ancestors-fewer}
 use Rattle.stacking.proofs.PageLemmas.{parent-there}

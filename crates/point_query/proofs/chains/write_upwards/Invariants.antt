@@ -1,5 +1,5 @@
 -- What is written, followed by what is above, is the way up from the element.
-use Rattle.std.proofs.Common.{◌≡◌, ◌≢◌, ◌+◌, ◌≤◌, ◌++◌, true, length, take}
+use Rattle.std.proofs.Common.{◌≡◌, ◌≢◌, ◌+◌, ◌++◌, true, length, take}
 use Rattle.box_tree.specs.Contents.{has_id}
 use Rattle.box_tree.specs.Edited.{ancestors_below}
 use Rattle.point_query.proofs.ChainLemmas.{upwards}

@@ -1,5 +1,5 @@
 -- The first element of the layer, or the root.
-use Rattle.std.proofs.Common.{◌≡◌, ◌∷◌, [], ℕ, List, reverse, Option, Some, true, false, Bool, if◌then◌else◌, ap, sym, subst, ◌∙◌, inl, inr, arith}
+use Rattle.std.proofs.Common.{◌≡◌, ◌∷◌, [], ℕ, List, reverse, Option, Some, true, Bool, if◌then◌else◌, ap, sym, subst, ◌∙◌, inl, inr, arith}
 use Rattle.std.specs.Prelude.{unwrap_or, slice_get}
 use Rattle.std.proofs.lemmas.Bool.{false≢true}
 use Rattle.std.proofs.lemmas.Int.{ints}
@@ -11,7 +11,7 @@ use Rattle.stacking.specs.OnPage.{of_node}
 use Rattle.stacking.specs.Painting.{layer}
 use Rattle.point_query.proofs.InsideLemmas.{x-within, y-within}
 use Rattle.point_query.proofs.KeptLemmas.{first-then_root}
-use Rattle.point_query.specs.Elements.{is_inside, elements_of, elements_with, each_once, then_root}
+use Rattle.point_query.specs.Elements.{is_inside, elements_of, elements_with}
 use Rattle.point_query.proofs.elements.topmost_element.Goals as goal
 
 pub first_admitted-first-requires-clause-x : goal.first_admitted-first-requires-clause-x
@@ -47,8 +47,10 @@ returns-clause-none g c =
     let y_is : to_z w64 (of_z w64 c.args.y) ≡ c.args.y = omega (arith, ints) in
     let told = rw (x_is, y_is, c.viewport-viewport.ensures) at c.holds_point.ensures in
     let inside : is_inside page.viewport c.args.x c.args.y ≡ true = sym told ∙ c.if-not-holds_point.false in
-    let rooted : c.in_ok-root.root ∷ [] ≡ roots_of page.tree = c.in_ok-root.ensures.root in
-    (λ none. absurd (false≢true (sym none)), λ none. elim none [
-      | inl outside ↦ absurd (false≢true (sym outside ∙ inside))
-      | inr bare ↦ let both : c.in_ok-root.root ∷ [] ≡ [] = rooted ∙ bare in absurd cc
-    ])
+    let rooted : c.in_ok-root.root ∷ [] ≡ roots_of page.tree = c.in_ok-root.ensures.root in (
+      λ none. absurd (false≢true (sym none)),
+      λ none. elim none [
+        | inl outside ↦ absurd (false≢true (sym outside ∙ inside))
+        | inr bare ↦ let both : c.in_ok-root.root ∷ [] ≡ [] = rooted ∙ bare in absurd cc
+      ],
+    )

@@ -1,9 +1,8 @@
 -- The candidates are ordered by the forest, so that their elements are those of the layer.
-use Rattle.std.proofs.Common.{◌≡◌, ◌++◌, ℕ, List, length, take, drop, ap, sym, subst, ◌∙◌, arith}
+use Rattle.std.proofs.Common.{ℕ, List, take, drop, ap, sym, subst, ◌∙◌, arith}
 use Rattle.std.specs.Prelude.{All}
 use Rattle.std.proofs.lemmas.List.Sorted.{All-permutation}
 use Rattle.box_tree.specs.Numbers.{IsNumber}
-use Rattle.paint_order.specs.Order.{is_member}
 use Rattle.point_query.specs.Elements.{elements_of}
 use Rattle.point_query.specs.Topmost.{items_named}
 use Rattle.point_query.proofs.CandidateLemmas.{front-permutation, once-permutation, member-permutation, all-member}

@@ -1,5 +1,5 @@
 -- The elements of the layer that are kept, and then the root.
-use Rattle.std.proofs.Common.{◌≡◌, ◌∷◌, [], ℕ, List, true, Bool, if◌then◌else◌, ap, sym, subst, ◌∙◌, arith}
+use Rattle.std.proofs.Common.{◌≡◌, [], true, Bool, if◌then◌else◌, ap, sym, subst, ◌∙◌, arith}
 use Rattle.std.proofs.lemmas.Int.{ints}
 use mir.Syntax.{w64}
 use mir.Val.{to_z, of_z}

@@ -1,4 +1,4 @@
-use Rattle.std.proofs.Common.{◌≡◌, ◌∙◌}
+use Rattle.std.proofs.Common.{◌∙◌}
 use Rattle.point_query.specs.Topmost.{painted}
 use Rattle.point_query.proofs.TopmostLemmas.{flattened-stands, earlier-places}
 use Rattle.point_query.proofs.topmost.is_above.Goals as goal

@@ -1,5 +1,5 @@
 -- The child that isn't above the other.
-use Rattle.std.proofs.Common.{◌≡◌, ◌+◌, ◌*◌, true, false, refl, arith}
+use Rattle.std.proofs.Common.{true, false, refl, arith}
 use Rattle.point_query.specs.Topmost.{lies_above, painted}
 use Rattle.point_query.proofs.HeapLemmas.{only_child, left_child, right_child}
 use Rattle.point_query.proofs.TopmostLemmas.{above-order, above-at}

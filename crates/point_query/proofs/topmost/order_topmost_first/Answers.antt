@@ -1,7 +1,5 @@
 -- The lowest number goes to the last place of the heap.
-use Rattle.point_query.proofs.OrderLemmas.{passed-topmost_first}
-use Rattle.point_query.proofs.LayerLemmas
-use Rattle.std.proofs.Common.{◌≡◌, ◌+◌, ◌-◌, length, arith}
+use Rattle.std.proofs.Common.{◌-◌, length, arith}
 use Rattle.std.proofs.lemmas.List.Sorted.{IsPermutation-trans, All-permutation}
 use Rattle.point_query.specs.Topmost.{lies_above, painted, IsPainted}
 use Rattle.point_query.proofs.HeapLemmas.{still_Placed, places}

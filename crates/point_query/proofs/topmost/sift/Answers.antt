@@ -1,8 +1,8 @@
 -- The number goes down, and the heap is whole where it stays.
-use Rattle.std.proofs.Common.{◌≡◌, true, false, arith}
+use Rattle.std.proofs.Common.{true, arith}
 use Rattle.std.proofs.lemmas.List.Sorted.{IsPermutation-trans, All-permutation}
 use Rattle.point_query.specs.Topmost.{lies_above, painted, IsPainted}
-use Rattle.point_query.proofs.HeapLemmas.{rests, at_leaf, sinks, swapped, stirred_again}
+use Rattle.point_query.proofs.HeapLemmas.{sinks, swapped, stirred_again}
 use Rattle.point_query.proofs.TopmostLemmas.{above-order, above-at}
 use Rattle.point_query.proofs.topmost.sift.Goals as goal
 
