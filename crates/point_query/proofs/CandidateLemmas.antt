@@ -93,7 +93,7 @@ fewer-others x (y ∷ xs) there = by_test (y == x) there (fewer-others x xs) (at
     by_test false is rest most = omega (arith, rest is)
 
 -- numbers that stand once, all of them members of a list, are no more than it has
-pub once-fewer : (zs xs : List ℕ) → StandOnce zs → ((x : ℕ) → is_member x zs ≡ true → is_member x xs ≡ true) → length zs ≤ length xs
+once-fewer : (zs xs : List ℕ) → StandOnce zs → ((x : ℕ) → is_member x zs ≡ true → is_member x xs ≡ true) → length zs ≤ length xs
 once-fewer [] xs once within = omega arith
 once-fewer (z ∷ zs) xs once within =
     let others = filter (λ y. not (y == z)) xs in

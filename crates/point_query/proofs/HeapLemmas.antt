@@ -24,15 +24,15 @@ module _ {X : Type 0} (xs ys : List X) (i j : ℕ) (lt : i < j) (in' : j < lengt
   written : (d : X) → ys ≡ set (set xs i (get_or xs j d)) j (get_or xs i d)
   written d = is ∙ sym (swap_is xs i j d (omega arith) in')
 
-  pub at_first : (m : ℕ) (d : X) → m ≡ i → get_or ys m d ≡ get_or xs j d
+  at_first : (m : ℕ) (d : X) → m ≡ i → get_or ys m d ≡ get_or xs j d
   at_first m d e = ap (λ (l : List X). get_or l m d) (written d) ∙ get_or-set_other (set xs i (get_or xs j d)) j m (get_or xs i d) d (omega arith)
       ∙ ap (λ (n : ℕ). get_or (set xs i (get_or xs j d)) n d) e ∙ get_or-set_same xs i (get_or xs j d) d (omega arith)
 
-  pub at_second : (m : ℕ) (d : X) → m ≡ j → get_or ys m d ≡ get_or xs i d
+  at_second : (m : ℕ) (d : X) → m ≡ j → get_or ys m d ≡ get_or xs i d
   at_second m d e = ap (λ (l : List X). get_or l m d) (written d) ∙ ap (λ (n : ℕ). get_or (set (set xs i (get_or xs j d)) j (get_or xs i d)) n d) e
       ∙ get_or-set_same (set xs i (get_or xs j d)) j (get_or xs i d) d (omega (arith, length-set xs i (get_or xs j d)))
 
-  pub apart : (m : ℕ) (d : X) → (m ≡ i → ⊥) → (m ≡ j → ⊥) → get_or ys m d ≡ get_or xs m d
+  apart : (m : ℕ) (d : X) → (m ≡ i → ⊥) → (m ≡ j → ⊥) → get_or ys m d ≡ get_or xs m d
   apart m d a b = ap (λ (l : List X). get_or l m d) (written d) ∙ get_or-set_other (set xs i (get_or xs j d)) j m (get_or xs i d) d b ∙ get_or-set_other xs i m (get_or xs j d) d a
 
   pub swapped : (end : ℕ) → j < end → ChangedOnlyBelow xs ys end
@@ -42,9 +42,6 @@ module _ {X : Type 0} (xs ys : List X) (i j : ℕ) (lt : i < j) (in' : j < lengt
         (λ e. ap P (at_first k d e) ∙ f j h)
         (λ n. cases (same_or_not k j) (λ e. ap P (at_second k d e) ∙ f i (omega arith)) (λ n'. ap P (apart k d (omega arith) (omega arith)) ∙ f k a));
   }
-
-pub unstirred : {X : Type 0} (xs : List X) (end : ℕ) → ChangedOnlyBelow xs xs end
-unstirred xs end = record { rest = λ k d a. refl; fails = λ P d f. f }
 
 pub stirred_again : {X : Type 0} (xs ys zs : List X) (end : ℕ) → ChangedOnlyBelow xs ys end → ChangedOnlyBelow ys zs end → ChangedOnlyBelow xs zs end
 stirred_again xs ys zs end s t = record { rest = λ k d a. t.rest k d a ∙ s.rest k d a; fails = λ P d f. t.fails P d (s.fails P d f) }
@@ -63,28 +60,11 @@ module _ {X : Type 0} (lt : X → X → Bool) where
   abbrev pub Placed : List X → ℕ → ℕ → Type 0
   Placed xs end n = IsSortedWithin lt xs end n × ((d : X) → end < n → NoneBelow (lt (get_or xs end d)) xs end d)
 
-  pub leaves : (xs : List X) (low end : ℕ) → end ≤ low * 2 + 1 → IsHeapWithin lt xs low end
-  leaves xs low end h = λ p k d a b e f. absurd (omega arith)
-
-  pub begins : (xs : List X) (root end : ℕ) → IsHeapWithin lt xs (root + 1) end → Hole xs root root end
-  begins xs root end h = (λ p k d a b e f n. h p k d (omega arith) b e f, λ p k d a b e f g i. absurd (omega arith))
-
-  pub at_leaf : (xs : List X) (low j end : ℕ) → end ≤ j * 2 + 1 → Hole xs low j end → IsHeapWithin lt xs low end
-  at_leaf xs low j end l h = λ p k d a b e f. h.0 p k d a b e f (omega arith)
-
-  pub nothing_Placed : (xs : List X) (n : ℕ) → Placed xs n n
-  nothing_Placed xs n = (λ k d a b. absurd (omega arith), λ d a. absurd (omega arith))
-
   pub still_Placed : (xs ys : List X) (end n : ℕ) → ChangedOnlyBelow xs ys end → Placed xs end n → Placed ys end n
   still_Placed xs ys end n s h = (
     λ k d a b. both _ _ _ _ (s.rest (k + 1) d (omega arith)) (s.rest k d a) (h.0 k d a b),
     λ d a. subst (λ x. NoneBelow (lt x) ys end d) (sym (s.rest end d (omega arith))) (s.fails (lt (get_or xs end d)) d (h.1 d a)),
   )
-
-  pub all_Placed : (xs : List X) (end n : ℕ) → end ≤ 1 → Placed xs end n → IsSortedWithin lt xs 0 n
-  all_Placed xs end n l h = λ k d a b. cases (same_or_not (k + 1) end)
-      (λ e. both _ _ _ _ (ap (λ m. get_or xs m d) e) refl (h.1 d (omega arith) k (omega arith)))
-      (λ m. h.0 k d (omega arith) b)
 
   module _ (o : IsStrictWeakOrder lt) where
     never : (x : X) (b : Bool) → lt x x ≡ b → lt x x ≡ false
@@ -102,11 +82,6 @@ module _ {X : Type 0} (lt : X → X → Bool) where
 
     pub right_child : (xs : List X) (j c end : ℕ) → c ≡ j * 2 + 1 → ((d : X) → lt (get_or xs c d) (get_or xs (c + 1) d) ≡ true) → IsNotBelowChildren lt xs j (c + 1) end
     right_child xs j c end e t = λ k d a b f. cases (same_or_not k (c + 1)) (itself xs (c + 1) k d) (λ n. let p : k ≡ c = omega arith in both _ _ _ _ refl (ap (λ m. get_or xs m d) p) (o.one_way _ _ (t d)))
-
-    pub rests : (xs : List X) (low j c end : ℕ) → ((d : X) → lt (get_or xs j d) (get_or xs c d) ≡ false) → IsNotBelowChildren lt xs j c end → Hole xs low j end → IsHeapWithin lt xs low end
-    rests xs low j c end t g h = λ p k d a b e f. cases (same_or_not p j)
-        (λ s. both _ _ _ _ (ap (λ m. get_or xs m d) s) refl (o.chain _ _ _ (t d) (g k d (omega arith) (omega arith) f)))
-        (λ n. h.0 p k d a b e f (omega arith))
 
     module _ (xs ys : List X) (low j c end : ℕ) (lo : low ≤ j) (from : j * 2 + 1 ≤ c) (to : c ≤ j * 2 + 2) (in' : c < end) (le : end ≤ length xs) (is : ys ≡ swap xs j c) where
       pub sinks : ((d : X) → lt (get_or xs j d) (get_or xs c d) ≡ true) → IsNotBelowChildren lt xs j c end → Hole xs low j end → Hole ys low c end

@@ -34,7 +34,15 @@ pub fn hit<'a, L: Ledger>(
     requires room { item_count engine.now.contents.tree + 256 ≤ length room.old }
     ensures { result.now ≡ elements_from_point engine.now.contents x y }
 {
-    let count = write_elements(engine.page(), engine.spaces(), engine.forest(), room, x, y, steps);
+    let count = write_elements(
+        engine.page(),
+        engine.spaces(),
+        engine.forest(),
+        room,
+        x,
+        y,
+        steps,
+    );
     &room[..count]
 }
 
@@ -54,7 +62,15 @@ pub fn top<L: Ledger>(
     ensures first { result ≡ element_from_point engine.now.contents x y }
     ensures none { IsNone result ↔ ((is_inside engine.now.contents.viewport x y ≡ false) ⊎ (roots_of engine.now.contents.tree ≡ [])) }
 {
-    topmost_element(engine.page(), engine.spaces(), engine.forest(), room, x, y, steps)
+    topmost_element(
+        engine.page(),
+        engine.spaces(),
+        engine.forest(),
+        room,
+        x,
+        y,
+        steps,
+    )
 }
 
 // Writes the elements from a point, by the table and the forest of the page, and answers how many they are.
