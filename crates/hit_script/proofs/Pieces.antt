@@ -1,5 +1,5 @@
 -- Lists that are read or written piece by piece.
-use Rattle.std.proofs.Common.{◌≡◌, ℕ, ◌+◌, ◌-◌, ◌≤◌, List, length, ◌++◌, take, drop, Option, Some, None, option_map, refl, ap, ◌∙◌, append_assoc, arith}
+use Rattle.std.proofs.Common.{◌≡◌, ℕ, ◌+◌, ◌-◌, ◌≤◌, List, [], ◌∷◌, length, ◌++◌, take, drop, slice_set, Option, Some, None, option_map, refl, ap, ◌∙◌, append_assoc, arith}
 use Rattle.std.specs.List.{slice_range}
 use Rattle.std.proofs.lemmas.List.{take_at, take_rest, length-take-le}
 use Rattle.std.proofs.Math.Seq.{take-add}
@@ -22,3 +22,8 @@ whole_buffer buffer new old n is size = is ∙ take_at new (drop (length new) ol
 -- the front of a buffer that has room
 pub front_length : (buffer : List ℕ) (count room n : ℕ) → count ≤ room → room ≤ n → length buffer ≡ n → length (take count buffer) ≡ count
 front_length buffer count room n within fits size = length-take-le count buffer (omega arith)
+
+-- what is written at the front of a room is the first of it
+pub first_written : (room : List ℕ) (member : ℕ) → 256 ≤ length room → take 1 (slice_set room 0 member) ≡ member ∷ []
+first_written [] member long = absurd (omega arith)
+first_written (x ∷ room) member long = refl

@@ -4,6 +4,7 @@ pub mod Cutting
 pub mod Outcome
 pub mod Script
 pub mod Log
+pub mod Room
 pub mod Answered
 pub mod Ending
 pub mod Words

@@ -1,13 +1,12 @@
 // A desk with the same answers to all, for tests of what stands above a desk.
-ghost use Rattle.std.specs.Prelude.{◌≡◌, ◌∷◌, [], true, Some, None, Ok, IfOk, OnOk, OnErr};
+ghost use Rattle.std.specs.Prelude.{◌≡◌, ◌∷◌, [], true, Some, None, Ok};
 ghost use Rattle.hit_script.specs.Log.{EditEntry, HitEntry, TopEntry, ChainEntry, HasEntry, Logs};
 ghost use Rattle.hit_script.specs.Canned.{canned_entry, canned_log, asked_once_more};
+ghost use Rattle.hit_script.specs.Room.{HasRoom};
 
 use crate::desks::Desk;
-use crate::memory::OutOfMemory;
 use box_tree::{Done, Edit, EditFault};
 use fractions::{Ledger, Steps};
-use std::alloc::Global;
 
 /// The most calls that a canned desk keeps.
 const KEPT: u32 = 64;
@@ -41,6 +40,15 @@ pub struct Canned {
     pub asked: [Asked; 64],
 }
 
+// One member, in the room for it.
+fn alone(room: &mut [u32], member: u32) -> &[u32]
+    requires { HasRoom 0 room.old }
+    ensures { result.now ≡ member ∷ [] }
+{
+    room[0] = member;
+    &room[..1]
+}
+
 impl Canned {
     // Keeps what was asked.
     fn keep(&mut self, asked: Asked)
@@ -61,6 +69,14 @@ impl Desk for Canned {
 
     ghost log = { canned_log };
 
+    ghost places = { λ _. 0 };
+
+    fn places(&self) -> u32
+        ensures none { result ≡ 0 }
+    {
+        0
+    }
+
     fn edit<L: Ledger>(&mut self, _edit: &Edit, _steps: &mut Steps<L>) -> Result<Done, EditFault>
         ensures done { result ≡ Ok Done.Done }
         ensures kept { self.new ≡ asked_once_more self.old Asked.Edit }
@@ -71,55 +87,53 @@ impl Desk for Canned {
         Ok(Done::Done)
     }
 
-    fn hit<L: Ledger>(
+    fn hit<'a, L: Ledger>(
         &mut self,
-        alloc: Global,
+        room: &'a mut [u32],
         x: i64,
         y: i64,
         _steps: &mut Steps<L>,
-    ) -> Result<Vec<u32>, OutOfMemory>
-        ensures member { IfOk result (λ ids. ids.items ≡ self.old.member ∷ []) }
-        ensures kept { OnOk result (self.new ≡ asked_once_more self.old (Asked.Hit x y)) }
-        ensures same { OnErr result (self.new ≡ self.old) }
-        ensures logged { IfOk result (λ ids. Logs (canned_log self.old) (canned_log self.new) (HitEntry x y ids.items)) }
+    ) -> &'a [u32]
+        requires room { HasRoom 0 room.old }
+        ensures member { result.now ≡ self.old.member ∷ [] }
+        ensures kept { self.new ≡ asked_once_more self.old (Asked.Hit x y) }
+        ensures logged { Logs (canned_log self.old) (canned_log self.new) (HitEntry x y result.now) }
         ensures no_step { _steps.new ≡ _steps.old }
     {
-        let ids = Vec::from_slice(alloc, &[self.member])?;
         self.keep(Asked::Hit { x, y });
-        Ok(ids)
+        alone(room, self.member)
     }
 
     fn top<L: Ledger>(
         &mut self,
-        _alloc: Global,
+        _room: &mut [u32],
         x: i64,
         y: i64,
         _steps: &mut Steps<L>,
-    ) -> Result<Option<u32>, OutOfMemory>
-        ensures member { result ≡ Ok (Some self.old.member) }
+    ) -> Option<u32>
+        ensures member { result ≡ Some self.old.member }
         ensures kept { self.new ≡ asked_once_more self.old (Asked.Top x y) }
-        ensures logged { IfOk result (λ id. Logs (canned_log self.old) (canned_log self.new) (TopEntry x y id)) }
+        ensures logged { Logs (canned_log self.old) (canned_log self.new) (TopEntry x y result) }
         ensures no_step { _steps.new ≡ _steps.old }
     {
         self.keep(Asked::Top { x, y });
-        Ok(Some(self.member))
+        Some(self.member)
     }
 
-    fn chain<L: Ledger>(
+    fn chain<'a, L: Ledger>(
         &mut self,
-        alloc: Global,
+        room: &'a mut [u32],
         id: u32,
         _steps: &mut Steps<L>,
-    ) -> Result<Vec<u32>, OutOfMemory>
-        ensures alone { IfOk result (λ ids. ids.items ≡ id ∷ []) }
-        ensures kept { OnOk result (self.new ≡ asked_once_more self.old (Asked.Chain id)) }
-        ensures unchanged { OnErr result (self.new ≡ self.old) }
-        ensures logged { IfOk result (λ ids. Logs (canned_log self.old) (canned_log self.new) (ChainEntry id ids.items)) }
+    ) -> &'a [u32]
+        requires { HasRoom 0 room.old }
+        ensures alone { result.now ≡ id ∷ [] }
+        ensures kept { self.new ≡ asked_once_more self.old (Asked.Chain id) }
+        ensures logged { Logs (canned_log self.old) (canned_log self.new) (ChainEntry id result.now) }
         ensures no_step { _steps.new ≡ _steps.old }
     {
-        let ids = Vec::from_slice(alloc, &[id])?;
         self.keep(Asked::Chain { id });
-        Ok(ids)
+        alone(room, id)
     }
 
     fn has(&mut self, id: u32) -> bool

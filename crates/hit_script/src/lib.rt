@@ -18,6 +18,7 @@ mod load;
 mod memory;
 mod outcome;
 mod pointing;
+mod room;
 mod script;
 mod sinks;
 mod sources;

@@ -9,6 +9,7 @@ ghost use Rattle.script_lines.specs.declared.command.Command.TheVariants.{Edit a
 ghost use Rattle.hit_script.specs.Ends.{Rose, TakesAll, TakesFront};
 ghost use Rattle.hit_script.specs.Load.{add_line as line_of_add, block_line as line_of_block, block_lines, block_sides as sides_of_block, block_style as style_of_block, counted_lines, diagonal_line as line_of_diagonal, load_lines, root_line as line_of_root, section_line as line_of_section, section_lines, section_style as style_of_section, box_text as text_of_box, place_text as text_of_place, summary_line as line_of_summary, view_sides};
 ghost use Rattle.hit_script.specs.Log.{Grows};
+ghost use Rattle.hit_script.specs.Room.{HasRoom};
 ghost use Rattle.hit_script.specs.Script.{opening};
 ghost use Rattle.hit_script.specs.Tallied.{Gains, SumsUp, Tallies, TalliesCommand, unmoved};
 
@@ -16,6 +17,7 @@ use crate::answers::is_passed_over;
 use crate::counts::Counts;
 use crate::desks::Desk;
 use crate::memory::OutOfMemory;
+use crate::room::lengthen;
 use crate::sinks::{Sink, SinkFault};
 use crate::transfer::write_all;
 use box_tree::Edit;
@@ -161,50 +163,58 @@ fn diagonal_line(alloc: Global, j: u32) -> Result<String, AllocError>
 fn count_edit<D: Desk, L: Ledger>(
     edit: &Edit,
     desk: &mut D,
+    room: &mut Vec<u32>,
     steps: &mut Steps<L>,
     counts: &mut Counts,
 ) -> Result<(), OutOfMemory>
-    requires { IsInRange edit.now }
+    requires edit { IsInRange edit.now }
+    requires room { HasRoom (D.places desk.old) room.old.items }
+    ensures room { OnOk result (HasRoom (D.places desk.new) room.new.items) }
     ensures log { Grows (D.log desk.old) (D.log desk.new) }
     ensures counted { OnOk result (Gains (TalliesCommand (Ok (edit_command edit.now)) (unmoved (D.page desk.old) (D.log desk.old)) (unmoved (D.page desk.new) (D.log desk.new))) counts.old counts.new) }
 {
     let answer = desk.edit(edit, steps);
+    lengthen(room, desk.places())?;
     counts.count_answer(answer)
 }
 
 fn count_hit<D: Desk, L: Ledger>(
-    alloc: Global,
     x: i64,
     y: i64,
     desk: &mut D,
+    room: &mut Vec<u32>,
     steps: &mut Steps<L>,
     counts: &mut Counts,
 ) -> Result<(), OutOfMemory>
     requires x { IsWithin 26 x }
     requires y { IsWithin 26 y }
+    requires room { HasRoom (D.places desk.old) room.old.items }
+    ensures room { OnOk result (HasRoom (D.places desk.new) room.new.items) }
     ensures log { Grows (D.log desk.old) (D.log desk.new) }
     ensures counted { OnOk result (Gains (TalliesCommand (Ok (hit_command x y)) (unmoved (D.page desk.old) (D.log desk.old)) (unmoved (D.page desk.new) (D.log desk.new))) counts.old counts.new) }
 {
-    let ids = desk.hit(alloc, x, y, steps)?;
-    counts.count_members(&ids)
+    let ids = desk.hit(room, x, y, steps);
+    counts.count_members(ids)
 }
 
 // No line of a load asks for anything but an edit or a hit.
 fn count_command<D: Desk, L: Ledger>(
-    alloc: Global,
     asked: Result<Command, LineFault>,
     desk: &mut D,
+    room: &mut Vec<u32>,
     steps: &mut Steps<L>,
     counts: &mut Counts,
 ) -> Result<(), OutOfMemory>
-    requires { IfOk asked IsAskable }
+    requires askable { IfOk asked IsAskable }
+    requires room { HasRoom (D.places desk.old) room.old.items }
     ensures memory { OnOk result (asked ≢ Err LineFault.OutOfMemory) }
+    ensures room { OnOk result (HasRoom (D.places desk.new) room.new.items) }
     ensures log { Grows (D.log desk.old) (D.log desk.new) }
     ensures counted { OnOk result (Gains (TalliesCommand asked (unmoved (D.page desk.old) (D.log desk.old)) (unmoved (D.page desk.new) (D.log desk.new))) counts.old counts.new) }
 {
     match asked {
-        Ok(Command::Edit(edit)) => count_edit(&edit, desk, steps, counts),
-        Ok(Command::Hit { x, y }) => count_hit(alloc, x, y, desk, steps, counts),
+        Ok(Command::Edit(edit)) => count_edit(&edit, desk, room, steps, counts),
+        Ok(Command::Hit { x, y }) => count_hit(x, y, desk, room, steps, counts),
         _ => Err(OutOfMemory),
     }
 }
@@ -213,16 +223,19 @@ fn count_line<D: Desk, L: Ledger>(
     alloc: Global,
     line: &[u8],
     desk: &mut D,
+    room: &mut Vec<u32>,
     steps: &mut Steps<L>,
     counts: &mut Counts,
 ) -> Result<(), OutOfMemory>
+    requires { HasRoom (D.places desk.old) room.old.items }
+    ensures room { OnOk result (HasRoom (D.places desk.new) room.new.items) }
     ensures log { Grows (D.log desk.old) (D.log desk.new) }
     ensures counted { OnOk result (Gains (Tallies (line.now ∷ []) (unmoved (D.page desk.old) (D.log desk.old)) (unmoved (D.page desk.new) (D.log desk.new))) counts.old counts.new) }
 {
     if is_passed_over(line) {
         return Ok(());
     }
-    count_command(alloc, command_of(alloc, line), desk, steps, counts)
+    count_command(command_of(alloc, line), desk, room, steps, counts)
 }
 
 // Before the first block of each hundred comes its section.
@@ -230,9 +243,12 @@ fn count_section<D: Desk, L: Ledger>(
     alloc: Global,
     i: u32,
     desk: &mut D,
+    room: &mut Vec<u32>,
     steps: &mut Steps<L>,
     counts: &mut Counts,
 ) -> Result<(), OutOfMemory>
+    requires { HasRoom (D.places desk.old) room.old.items }
+    ensures room { OnOk result (HasRoom (D.places desk.new) room.new.items) }
     ensures log { Grows (D.log desk.old) (D.log desk.new) }
     ensures counted { OnOk result (Gains (Tallies (section_lines i) (unmoved (D.page desk.old) (D.log desk.old)) (unmoved (D.page desk.new) (D.log desk.new))) counts.old counts.new) }
 {
@@ -240,39 +256,45 @@ fn count_section<D: Desk, L: Ledger>(
         return Ok(());
     }
     let line = section_line(alloc, i / SECTION)?;
-    count_line(alloc, line.as_bytes(), desk, steps, counts)
+    count_line(alloc, line.as_bytes(), desk, room, steps, counts)
 }
 
 fn count_block<D: Desk, L: Ledger>(
     alloc: Global,
     i: u32,
     desk: &mut D,
+    room: &mut Vec<u32>,
     steps: &mut Steps<L>,
     counts: &mut Counts,
 ) -> Result<(), OutOfMemory>
-    requires { i < 20000 }
+    requires i { i < 20000 }
+    requires room { HasRoom (D.places desk.old) room.old.items }
+    ensures room { OnOk result (HasRoom (D.places desk.new) room.new.items) }
     ensures log { Grows (D.log desk.old) (D.log desk.new) }
     ensures counted { OnOk result (Gains (Tallies (block_lines i) (unmoved (D.page desk.old) (D.log desk.old)) (unmoved (D.page desk.new) (D.log desk.new))) counts.old counts.new) }
 {
-    count_section(alloc, i, desk, steps, counts)?;
+    count_section(alloc, i, desk, room, steps, counts)?;
     let line = block_line(alloc, i)?;
-    count_line(alloc, line.as_bytes(), desk, steps, counts)
+    count_line(alloc, line.as_bytes(), desk, room, steps, counts)
 }
 
 fn count_blocks<D: Desk, L: Ledger>(
     alloc: Global,
     count: u32,
     desk: &mut D,
+    room: &mut Vec<u32>,
     steps: &mut Steps<L>,
     counts: &mut Counts,
 ) -> Result<(), OutOfMemory>
-    requires { count ≤ 20000 }
+    requires count { count ≤ 20000 }
+    requires room { HasRoom (D.places desk.old) room.old.items }
+    ensures room { OnOk result (HasRoom (D.places desk.new) room.new.items) }
     ensures log { Grows (D.log desk.old) (D.log desk.new) }
     ensures counted { OnOk result (Gains (Tallies (flat_map block_lines (range_with_len 0 count)) (unmoved (D.page desk.old) (D.log desk.old)) (unmoved (D.page desk.new) (D.log desk.new))) counts.old counts.new) }
 {
     let mut i = 0;
     while i < count {
-        count_block(alloc, i, desk, steps, counts)?;
+        count_block(alloc, i, desk, room, steps, counts)?;
         i += 1;
     }
     Ok(())
@@ -282,29 +304,34 @@ fn count_query<D: Desk, L: Ledger>(
     alloc: Global,
     j: u32,
     desk: &mut D,
+    room: &mut Vec<u32>,
     steps: &mut Steps<L>,
     counts: &mut Counts,
 ) -> Result<(), OutOfMemory>
-    requires { j < 16 }
+    requires j { j < 16 }
+    requires room { HasRoom (D.places desk.old) room.old.items }
+    ensures room { OnOk result (HasRoom (D.places desk.new) room.new.items) }
     ensures log { Grows (D.log desk.old) (D.log desk.new) }
     ensures counted { OnOk result (Gains (Tallies (line_of_diagonal j ∷ []) (unmoved (D.page desk.old) (D.log desk.old)) (unmoved (D.page desk.new) (D.log desk.new))) counts.old counts.new) }
 {
     let line = diagonal_line(alloc, j)?;
-    count_line(alloc, line.as_bytes(), desk, steps, counts)
+    count_line(alloc, line.as_bytes(), desk, room, steps, counts)
 }
 
 fn count_queries<D: Desk, L: Ledger>(
     alloc: Global,
     desk: &mut D,
+    room: &mut Vec<u32>,
     steps: &mut Steps<L>,
     counts: &mut Counts,
 ) -> Result<(), OutOfMemory>
+    requires { HasRoom (D.places desk.old) room.old.items }
     ensures log { Grows (D.log desk.old) (D.log desk.new) }
     ensures counted { OnOk result (Gains (Tallies (map line_of_diagonal (range_with_len 0 16)) (unmoved (D.page desk.old) (D.log desk.old)) (unmoved (D.page desk.new) (D.log desk.new))) counts.old counts.new) }
 {
     let mut j = 0;
     while j < QUERIES {
-        count_query(alloc, j, desk, steps, counts)?;
+        count_query(alloc, j, desk, room, steps, counts)?;
         j += 1;
     }
     Ok(())
@@ -313,14 +340,17 @@ fn count_queries<D: Desk, L: Ledger>(
 fn count_root<D: Desk, L: Ledger>(
     alloc: Global,
     desk: &mut D,
+    room: &mut Vec<u32>,
     steps: &mut Steps<L>,
     counts: &mut Counts,
 ) -> Result<(), OutOfMemory>
+    requires { HasRoom (D.places desk.old) room.old.items }
+    ensures room { OnOk result (HasRoom (D.places desk.new) room.new.items) }
     ensures log { Grows (D.log desk.old) (D.log desk.new) }
     ensures counted { OnOk result (Gains (Tallies (line_of_root ∷ []) (unmoved (D.page desk.old) (D.log desk.old)) (unmoved (D.page desk.new) (D.log desk.new))) counts.old counts.new) }
 {
     let line = root_line(alloc)?;
-    count_line(alloc, line.as_bytes(), desk, steps, counts)
+    count_line(alloc, line.as_bytes(), desk, room, steps, counts)
 }
 
 // What the desk answers to the lines of the load of so many blocks.
@@ -328,16 +358,18 @@ fn counts_of_load<D: Desk, L: Ledger>(
     alloc: Global,
     count: u32,
     desk: &mut D,
+    room: &mut Vec<u32>,
     steps: &mut Steps<L>,
 ) -> Result<Counts, OutOfMemory>
-    requires { count ≤ 20000 }
+    requires count { count ≤ 20000 }
+    requires room { HasRoom (D.places desk.old) room.old.items }
     ensures log { Grows (D.log desk.old) (D.log desk.new) }
     ensures counted { IfOk result (Tallies (load_lines count) (unmoved (D.page desk.old) (D.log desk.old)) (unmoved (D.page desk.new) (D.log desk.new))) }
 {
     let mut counts = Counts::nothing();
-    count_root(alloc, desk, steps, &mut counts)?;
-    count_blocks(alloc, count, desk, steps, &mut counts)?;
-    count_queries(alloc, desk, steps, &mut counts)?;
+    count_root(alloc, desk, room, steps, &mut counts)?;
+    count_blocks(alloc, count, desk, room, steps, &mut counts)?;
+    count_queries(alloc, desk, room, steps, &mut counts)?;
     Ok(counts)
 }
 
@@ -355,15 +387,17 @@ pub fn sum_up<K: Sink, D: Desk, L: Ledger>(
     count: u32,
     sink: &mut K,
     desk: &mut D,
+    room: &mut Vec<u32>,
     steps: &mut Steps<L>,
 ) -> Result<(), SinkFault>
-    requires { count ≤ 20000 }
+    requires count { count ≤ 20000 }
+    requires room { HasRoom (D.places desk.old) room.old.items }
     ensures log { Grows (D.log desk.old) (D.log desk.new) }
     ensures summed { OnOk result (SumsUp count (unmoved (D.page desk.old) (D.log desk.old)) (unmoved (D.page desk.new) (D.log desk.new)) (K.taken sink.old) (K.taken sink.new)) }
     ensures part { (first : Contents) → D.page desk.old ≡ Some first → TakesFront (K.taken sink.old) (K.taken sink.new) (line_of_summary count (counted_lines (opening first) (load_lines count))) }
     ensures failed { result ≡ Err SinkFault.Failed → Rose (K.faults sink.old) (K.faults sink.new) }
 {
-    let counts = counts_of_load(alloc, count, desk, steps)?;
+    let counts = counts_of_load(alloc, count, desk, room, steps)?;
     let line = summary_line(alloc, count, counts)?;
     write_all(sink, line.as_bytes())
 }

@@ -18,14 +18,14 @@ impl From<mouse_events::OutOfMemory> for OutOfMemory {
     }
 }
 
-impl From<point_query::OutOfMemory> for OutOfMemory {
-    fn from(_error: point_query::OutOfMemory) -> OutOfMemory {
+impl From<script_lines::OutOfMemory> for OutOfMemory {
+    fn from(_error: script_lines::OutOfMemory) -> OutOfMemory {
         OutOfMemory
     }
 }
 
-impl From<script_lines::OutOfMemory> for OutOfMemory {
-    fn from(_error: script_lines::OutOfMemory) -> OutOfMemory {
+impl From<tree_edits::OutOfMemory> for OutOfMemory {
+    fn from(_error: tree_edits::OutOfMemory) -> OutOfMemory {
         OutOfMemory
     }
 }

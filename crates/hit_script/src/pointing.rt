@@ -8,6 +8,7 @@ ghost use Rattle.script_lines.specs.declared.command.Command.TheVariants.{Point 
 ghost use Rattle.script_lines.specs.Reply.{events_line};
 ghost use Rattle.hit_script.specs.Answered.{Appends, IsSpotted, Replies, Turns, known};
 ghost use Rattle.hit_script.specs.Log.{Grows, LogsAll, chain_entries, has_entries};
+ghost use Rattle.hit_script.specs.Room.{HasRoom};
 
 use crate::desks::Desk;
 use crate::memory::OutOfMemory;
@@ -30,13 +31,16 @@ pub(crate) fn answer_point<D: Desk, L: Ledger>(
     x: i64,
     y: i64,
     desk: &mut D,
+    room: &mut Vec<u32>,
     pointer: &mut Pointer,
     steps: &mut Steps<L>,
     out: &mut Vec<u8>,
 ) -> Result<(), OutOfMemory>
     requires x { IsWithin 26 x }
     requires y { IsWithin 26 y }
+    requires room { HasRoom (D.places desk.old) room.old.items }
     ensures spot { IsSpotted pointer.new }
+    ensures room { OnOk result (HasRoom (D.places desk.new) room.new.items) }
     ensures log { Grows (D.log desk.old) (D.log desk.new) }
     ensures reply { OnOk result (Appends (Replies (Ok (point_command x y)) (known (D.page desk.old) (D.log desk.old) pointer.old) (known (D.page desk.new) (D.log desk.new) pointer.new)) out.old.items out.new.items) }
 {
@@ -46,19 +50,22 @@ pub(crate) fn answer_point<D: Desk, L: Ledger>(
         y,
         is_moved: true,
     };
-    answer_turn(alloc, turn, desk, pointer, steps, out)
+    answer_turn(alloc, turn, desk, room, pointer, steps, out)
 }
 
 /// Answers a pointer that stays: it turns to what is topmost at its spot, where it has one.
 pub(crate) fn answer_refresh<D: Desk, L: Ledger>(
     alloc: Global,
     desk: &mut D,
+    room: &mut Vec<u32>,
     pointer: &mut Pointer,
     steps: &mut Steps<L>,
     out: &mut Vec<u8>,
 ) -> Result<(), OutOfMemory>
-    requires { IsSpotted pointer.old }
+    requires spot { IsSpotted pointer.old }
+    requires room { HasRoom (D.places desk.old) room.old.items }
     ensures spot { IsSpotted pointer.new }
+    ensures room { OnOk result (HasRoom (D.places desk.new) room.new.items) }
     ensures log { Grows (D.log desk.old) (D.log desk.new) }
     ensures reply { OnOk result (Appends (Replies (Ok refresh_command) (known (D.page desk.old) (D.log desk.old) pointer.old) (known (D.page desk.new) (D.log desk.new) pointer.new)) out.old.items out.new.items) }
 {
@@ -70,7 +77,7 @@ pub(crate) fn answer_refresh<D: Desk, L: Ledger>(
         y,
         is_moved: false,
     };
-    answer_turn(alloc, turn, desk, pointer, steps, out)
+    answer_turn(alloc, turn, desk, room, pointer, steps, out)
 }
 
 // Turns the pointer, whose spot is set, to what is topmost there.
@@ -78,6 +85,7 @@ fn answer_turn<D: Desk, L: Ledger>(
     alloc: Global,
     turn: Turn,
     desk: &mut D,
+    room: &mut Vec<u32>,
     pointer: &mut Pointer,
     steps: &mut Steps<L>,
     out: &mut Vec<u8>,
@@ -85,33 +93,37 @@ fn answer_turn<D: Desk, L: Ledger>(
     requires x { IsWithin 26 turn.x }
     requires y { IsWithin 26 turn.y }
     requires spot { pointer.old.spot ≡ Some (turn.x, turn.y) }
+    requires room { HasRoom (D.places desk.old) room.old.items }
     ensures spot { pointer.new.spot ≡ pointer.old.spot }
+    ensures room { OnOk result (HasRoom (D.places desk.new) room.new.items) }
     ensures log { Grows (D.log desk.old) (D.log desk.new) }
     ensures reply { OnOk result (Appends (Turns turn.x turn.y turn.is_moved (known (D.page desk.old) (D.log desk.old) pointer.old) (known (D.page desk.new) (D.log desk.new) pointer.new)) out.old.items out.new.items) }
 {
-    let target = desk.top(alloc, turn.x, turn.y, steps)?;
-    let members = chain_of_some(alloc, target, desk, steps)?;
+    let target = desk.top(room, turn.x, turn.y, steps);
+    let members = chain_of_some(target, desk, room, steps);
     let alive = living(alloc, pointer.chain(), desk)?;
-    print_turn(pointer, &members, &alive, turn.is_moved, out)
+    print_turn(pointer, members, &alive, turn.is_moved, out)
 }
 
 // The chain of an element, where there is one, and else an empty one.
-fn chain_of_some<D: Desk, L: Ledger>(
-    alloc: Global,
+fn chain_of_some<'a, D: Desk, L: Ledger>(
     target: Option<u32>,
     desk: &mut D,
+    room: &'a mut [u32],
     steps: &mut Steps<L>,
-) -> Result<Vec<u32>, OutOfMemory>
-    ensures chain { IfOk result (λ members. IfSome (D.page desk.old) (λ was. members.items ≡ option_map_or (chain_of was) target [])) }
-    ensures none { IfOk result (λ members. target ≡ None → members.items ≡ []) }
-    ensures short { IfOk result (λ members. length members.items ≤ 256) }
+) -> &'a [u32]
+    requires { HasRoom (D.places desk.old) room.old }
+    ensures chain { IfSome (D.page desk.old) (λ was. result.now ≡ option_map_or (chain_of was) target []) }
+    ensures none { target ≡ None → result.now ≡ [] }
+    ensures short { length result.now ≤ 256 }
     ensures same { D.page desk.new ≡ D.page desk.old }
+    ensures same_places { D.places desk.new ≡ D.places desk.old }
     ensures grows { Grows (D.log desk.old) (D.log desk.new) }
-    ensures logged { IfOk result (λ members. LogsAll (D.log desk.old) (D.log desk.new) (chain_entries target members.items)) }
+    ensures logged { LogsAll (D.log desk.old) (D.log desk.new) (chain_entries target result.now) }
 {
     match target {
-        Some(id) => desk.chain(alloc, id, steps),
-        None => Ok(Vec::new(alloc)),
+        Some(id) => desk.chain(room, id, steps),
+        None => &room[..0],
     }
 }
 
@@ -120,6 +132,7 @@ fn living<D: Desk>(alloc: Global, chain: &[u32], desk: &mut D) -> Result<Vec<boo
     ensures count { IfOk result (λ alive. length alive.items ≡ length chain.now) }
     ensures alive { IfOk result (λ alive. IfSome (D.page desk.old) (λ was. alive.items ≡ map (has_id was) chain.now)) }
     ensures same { D.page desk.new ≡ D.page desk.old }
+    ensures same_places { D.places desk.new ≡ D.places desk.old }
     ensures grows { Grows (D.log desk.old) (D.log desk.new) }
     ensures logged { IfOk result (λ alive. LogsAll (D.log desk.old) (D.log desk.new) (has_entries chain.now alive.items)) }
 {

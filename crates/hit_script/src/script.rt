@@ -15,6 +15,7 @@ use crate::cutter::LineCutter;
 use crate::desks::Desk;
 use crate::load::sum_up;
 use crate::outcome::Status;
+use crate::room::room_for;
 use crate::sinks::{Sink, SinkFault};
 use crate::sources::Source;
 use crate::transfer::read_piece;
@@ -72,6 +73,9 @@ fn play<S: Source, K: Sink, D: Desk, L: Ledger>(
     let Ok(mut pointer) = Pointer::new(alloc) else {
         return Status::Memory;
     };
+    let Ok(mut room) = room_for(alloc, desk.places()) else {
+        return Status::Memory;
+    };
     let mut read = 0;
     'pieces: loop {
         let Ok(count) = read_piece(source, &mut piece, room_after(read)) else {
@@ -89,6 +93,7 @@ fn play<S: Source, K: Sink, D: Desk, L: Ledger>(
             &piece[..count],
             sink,
             desk,
+            &mut room,
             &mut pointer,
             steps,
             &mut cutter,
@@ -97,7 +102,15 @@ fn play<S: Source, K: Sink, D: Desk, L: Ledger>(
             return status_of(fault);
         }
     }
-    match reply_to_last(alloc, &mut cutter, sink, desk, &mut pointer, steps) {
+    match reply_to_last(
+        alloc,
+        &mut cutter,
+        sink,
+        desk,
+        &mut room,
+        &mut pointer,
+        steps,
+    ) {
         Ok(()) => Status::Done,
         Err(fault) => status_of(fault),
     }
@@ -118,7 +131,10 @@ fn play_load<K: Sink, D: Desk, L: Ledger>(
     if !is_read_as(alloc, words, count) {
         return Status::Memory;
     }
-    match sum_up(alloc, count, sink, desk, steps) {
+    let Ok(mut room) = room_for(alloc, desk.places()) else {
+        return Status::Memory;
+    };
+    match sum_up(alloc, count, sink, desk, &mut room, steps) {
         Ok(()) => Status::Done,
         Err(fault) => status_of(fault),
     }

@@ -5,6 +5,7 @@ ghost use Rattle.hit_script.specs.Cutting.{counted};
 ghost use Rattle.hit_script.specs.Ends.{Rose, TakesFront};
 ghost use Rattle.hit_script.specs.Lines.{lines, whole_lines, unfinished, HasBegun};
 ghost use Rattle.hit_script.specs.Log.{Grows};
+ghost use Rattle.hit_script.specs.Room.{HasRoom};
 ghost use Rattle.hit_script.specs.Script.{Scene, replies_from};
 
 use crate::answers::answer_cut;
@@ -23,6 +24,7 @@ fn take_part<D: Desk, L: Ledger>(
     alloc: Global,
     piece: &[u8],
     desk: &mut D,
+    room: &mut Vec<u32>,
     pointer: &mut Pointer,
     steps: &mut Steps<L>,
     cutter: &mut LineCutter,
@@ -31,11 +33,13 @@ fn take_part<D: Desk, L: Ledger>(
     requires some { 0 < length piece.now }
     requires fits { cutter.old.count + length piece.now ≤ 2 ^ 32 }
     requires spot { IsSpotted pointer.old }
+    requires room { HasRoom (D.places desk.old) room.old.items }
     ensures some { IfOk result (λ n. 0 < n) }
     ensures within { IfOk result (λ n. n ≤ length piece.now) }
     ensures fits { IfOk result (λ n. cutter.new.count ≤ cutter.old.count + n) }
     ensures begun { IfOk result (λ n. (begun : List ℕ) → HasBegun cutter.old begun → cutter.new ≡ counted (unfinished (begun ++ take n piece.now))) }
     ensures spot { IsSpotted pointer.new }
+    ensures room { OnOk result (HasRoom (D.places desk.new) room.new.items) }
     ensures log { Grows (D.log desk.old) (D.log desk.new) }
     ensures replies { IfOk result (λ n. (begun : List ℕ) → HasBegun cutter.old begun
         → Appends (Answers (lines (whole_lines (begun ++ take n piece.now))) (known (D.page desk.old) (D.log desk.old) pointer.old) (known (D.page desk.new) (D.log desk.new) pointer.new)) out.old.items out.new.items) }
@@ -44,7 +48,7 @@ fn take_part<D: Desk, L: Ledger>(
     match cut {
         Cut::More => Ok(count),
         _ => {
-            answer_cut(alloc, cut, cutter, desk, pointer, steps, out)?;
+            answer_cut(alloc, cut, cutter, desk, room, pointer, steps, out)?;
             cutter.clear();
             Ok(count)
         }
@@ -57,6 +61,7 @@ pub fn absorb<D: Desk, L: Ledger>(
     alloc: Global,
     piece: &[u8],
     desk: &mut D,
+    room: &mut Vec<u32>,
     pointer: &mut Pointer,
     steps: &mut Steps<L>,
     cutter: &mut LineCutter,
@@ -64,15 +69,17 @@ pub fn absorb<D: Desk, L: Ledger>(
 ) -> Result<(), OutOfMemory>
     requires fits { cutter.old.count + length piece.now ≤ 2 ^ 32 }
     requires spot { IsSpotted pointer.old }
+    requires room { HasRoom (D.places desk.old) room.old.items }
     ensures begun { OnOk result ((begun : List ℕ) → HasBegun cutter.old begun → cutter.new ≡ counted (unfinished (begun ++ piece.now))) }
     ensures spot { IsSpotted pointer.new }
+    ensures room { OnOk result (HasRoom (D.places desk.new) room.new.items) }
     ensures log { Grows (D.log desk.old) (D.log desk.new) }
     ensures replies { OnOk result ((begun : List ℕ) → HasBegun cutter.old begun
         → Appends (Answers (lines (whole_lines (begun ++ piece.now))) (known (D.page desk.old) (D.log desk.old) pointer.old) (known (D.page desk.new) (D.log desk.new) pointer.new)) out.old.items out.new.items) }
 {
     let mut at = 0;
     while at < piece.len() {
-        at += take_part(alloc, &piece[at..], desk, pointer, steps, cutter, out)?;
+        at += take_part(alloc, &piece[at..], desk, room, pointer, steps, cutter, out)?;
     }
     Ok(())
 }
@@ -84,14 +91,17 @@ pub fn reply_to<K: Sink, D: Desk, L: Ledger>(
     piece: &[u8],
     sink: &mut K,
     desk: &mut D,
+    room: &mut Vec<u32>,
     pointer: &mut Pointer,
     steps: &mut Steps<L>,
     cutter: &mut LineCutter,
 ) -> Result<(), SinkFault>
     requires fits { cutter.old.count + length piece.now ≤ 2 ^ 32 }
     requires spot { IsSpotted pointer.old }
+    requires room { HasRoom (D.places desk.old) room.old.items }
     ensures begun { OnOk result ((begun : List ℕ) → HasBegun cutter.old begun → cutter.new ≡ counted (unfinished (begun ++ piece.now))) }
     ensures spot { IsSpotted pointer.new }
+    ensures room { OnOk result (HasRoom (D.places desk.new) room.new.items) }
     ensures log { Grows (D.log desk.old) (D.log desk.new) }
     ensures replied { OnOk result ((begun : List ℕ) → HasBegun cutter.old begun
         → Hands (Answers (lines (whole_lines (begun ++ piece.now))) (known (D.page desk.old) (D.log desk.old) pointer.old) (known (D.page desk.new) (D.log desk.new) pointer.new)) (K.taken sink.old) (K.taken sink.new)) }
@@ -101,7 +111,16 @@ pub fn reply_to<K: Sink, D: Desk, L: Ledger>(
     ensures never_falls { K.faults sink.old ≤ K.faults sink.new }
 {
     let mut replies = Vec::new(alloc);
-    absorb(alloc, piece, desk, pointer, steps, cutter, &mut replies)?;
+    absorb(
+        alloc,
+        piece,
+        desk,
+        room,
+        pointer,
+        steps,
+        cutter,
+        &mut replies,
+    )?;
     write_all(sink, &replies)
 }
 
@@ -110,12 +129,14 @@ fn answer_last<D: Desk, L: Ledger>(
     alloc: Global,
     cutter: &mut LineCutter,
     desk: &mut D,
+    room: &mut Vec<u32>,
     pointer: &mut Pointer,
     steps: &mut Steps<L>,
     out: &mut Vec<u8>,
 ) -> Result<(), OutOfMemory>
     requires fits { cutter.old.count < 2 ^ 32 }
     requires spot { IsSpotted pointer.old }
+    requires room { HasRoom (D.places desk.old) room.old.items }
     ensures spot { IsSpotted pointer.new }
     ensures log { Grows (D.log desk.old) (D.log desk.new) }
     ensures replies { OnOk result ((begun : List ℕ) → HasBegun cutter.old begun
@@ -125,7 +146,7 @@ fn answer_last<D: Desk, L: Ledger>(
         return Ok(());
     }
     let cut = cutter.take(b'\n');
-    answer_cut(alloc, cut, cutter, desk, pointer, steps, out)
+    answer_cut(alloc, cut, cutter, desk, room, pointer, steps, out)
 }
 
 /// Hands the reply to a last line, which has no newline, to the sink. Where that fails the sink has taken a front of it.
@@ -134,11 +155,13 @@ pub fn reply_to_last<K: Sink, D: Desk, L: Ledger>(
     cutter: &mut LineCutter,
     sink: &mut K,
     desk: &mut D,
+    room: &mut Vec<u32>,
     pointer: &mut Pointer,
     steps: &mut Steps<L>,
 ) -> Result<(), SinkFault>
     requires fits { cutter.old.count < 2 ^ 32 }
     requires spot { IsSpotted pointer.old }
+    requires room { HasRoom (D.places desk.old) room.old.items }
     ensures spot { IsSpotted pointer.new }
     ensures log { Grows (D.log desk.old) (D.log desk.new) }
     ensures replied { OnOk result ((begun : List ℕ) → HasBegun cutter.old begun
@@ -149,6 +172,6 @@ pub fn reply_to_last<K: Sink, D: Desk, L: Ledger>(
     ensures never_falls { K.faults sink.old ≤ K.faults sink.new }
 {
     let mut reply = Vec::new(alloc);
-    answer_last(alloc, cutter, desk, pointer, steps, &mut reply)?;
+    answer_last(alloc, cutter, desk, room, pointer, steps, &mut reply)?;
     write_all(sink, &reply)
 }

@@ -6,7 +6,7 @@ use Rattle.hit_script.proofs.Logs.{grows_both, grows_same}
 use Rattle.hit_script.proofs.load.count_blocks.Goals as goal
 
 pub loop-i-init : goal.loop-i-init
-loop-i-init g c = record { within = omega arith; log = grows_same _; counted = gains_nothing _ _ }
+loop-i-init g c = record { within = omega arith; room = c.requires.room; log = grows_same _; counted = gains_nothing _ _ }
 
 pub loop-i-preserved : goal.loop-i-preserved
 loop-i-preserved g c =
@@ -14,6 +14,7 @@ loop-i-preserved g c =
     let i = c.loop-i.i in
     record {
       within = omega (arith, c.loop-i-test.true);
+      room = c.in_ok-count_block.ensures.room;
       log = grows_both kept.log c.count_block.ensures.log;
       counted = rw (blocks_more block_lines i) (gains_both (flat_map block_lines (range_with_len 0 i)) (block_lines i) _ kept.counted c.in_ok-count_block.ensures.counted);
     }

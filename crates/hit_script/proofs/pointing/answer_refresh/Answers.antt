@@ -7,7 +7,7 @@ use Rattle.hit_script.proofs.pointing.answer_refresh.Goals as goal
 
 pub returns-clause-reply : goal.returns-clause-reply
 returns-clause-reply g c =
-    let within = spot_within c.args.pointer.now c.in-Some.x c.in-Some.y c.requires (sym c.in-Some.ensures) in
+    let within = spot_within c.args.pointer.now c.in-Some.x c.in-Some.y c.requires.spot (sym c.in-Some.ensures) in
     let x_is : to_z w64 (of_z w64 c.in-Some.x) ≡ c.in-Some.x = coordinate_kept c.in-Some.x within.0 in
     let y_is : to_z w64 (of_z w64 c.in-Some.y) ≡ c.in-Some.y = coordinate_kept c.in-Some.y within.1 in
     refreshed c.answer_turn.result c.in-Some.x c.in-Some.y (g.D.Desk.page c.args.desk.now) (g.D.Desk.log c.args.desk.now) c.args.pointer.now

@@ -16,6 +16,7 @@ loop-id-preserved g c =
       count = omega (arith, kept.count, length-append c.loop-id.alive.items (c.has-is_there.result ∷ []), length-append (take k chain) (id ∷ []));
       alive = alive_more (g.D.Desk.page c.args.desk.now) (take k chain) c.loop-id.alive.items id c.has-is_there.result kept.alive (rw kept.same at c.has-is_there.ensures.is);
       same = c.has-is_there.ensures.same ∙ kept.same;
+      same_places = c.has-is_there.ensures.same_places ∙ kept.same_places;
       grows = grows_both kept.grows (grows_by c.has-is_there.ensures.logged);
       logged = rw (has_entries-more (take k chain) c.loop-id.alive.items id c.has-is_there.result kept.count) (logs_both kept.logged c.has-is_there.ensures.logged);
     }

@@ -10,6 +10,7 @@ invariant-loop-id g l = record {
   count : length l.alive.items ≡ length (take l.id-index l.chain);
   alive : IfSome (g.D.Desk.page l.fn.desk) (λ was. l.alive.items ≡ map (has_id was) (take l.id-index l.chain));
   same : g.D.Desk.page l.desk ≡ g.D.Desk.page l.fn.desk;
+  same_places : g.D.Desk.places l.desk ≡ g.D.Desk.places l.fn.desk;
   grows : Grows (g.D.Desk.log l.fn.desk) (g.D.Desk.log l.desk);
   logged : LogsAll (g.D.Desk.log l.fn.desk) (g.D.Desk.log l.desk) (has_entries (take l.id-index l.chain) l.alive.items);
 }

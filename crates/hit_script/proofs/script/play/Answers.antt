@@ -21,6 +21,7 @@ pieces-init g c =
       spot = rw c.in-Ok-new-2.ensures tt;
       below = omega arith;
       room = c.in-Ok.ensures.len;
+      answers = rw c.places.ensures.is at c.in-Ok-room_for.ensures;
     }
 
 pub room_after-requires : goal.room_after-requires
@@ -59,6 +60,9 @@ slice_bounds-reply_to-end g c =
 
 pub reply_to-replied-requires-clause-spot : goal.reply_to-replied-requires-clause-spot
 reply_to-replied-requires-clause-spot g c = c.pieces.invariant.spot
+
+pub reply_to-replied-requires-clause-room : goal.reply_to-replied-requires-clause-room
+reply_to-replied-requires-clause-room g c = c.pieces.invariant.answers
 
 pub reply_to-replied-requires-clause-fits : goal.reply_to-replied-requires-clause-fits
 reply_to-replied-requires-clause-fits g c =
@@ -105,10 +109,14 @@ pieces-preserved g c =
       spot = c.reply_to-replied.ensures.spot;
       below = omega (arith, reads.within, c.room_after.ensures.most, c.if-read-eq-MOST.false);
       room = kept.room;
+      answers = c.in_default-replied.ensures.room;
     }
 
 pub reply_to_last-requires-clause-spot : goal.reply_to_last-requires-clause-spot
 reply_to_last-requires-clause-spot g c = c.pieces.invariant.spot
+
+pub reply_to_last-requires-clause-room : goal.reply_to_last-requires-clause-room
+reply_to_last-requires-clause-room g c = c.pieces.invariant.answers
 
 pub reply_to_last-requires-clause-fits : goal.reply_to_last-requires-clause-fits
 reply_to_last-requires-clause-fits g c = omega (arith, count_within c.pieces.invariant.reads, c.pieces.invariant.below)
@@ -170,3 +178,12 @@ returns-in_default-new-2 g c =
     let start : Moment = record { left = g.S.Source.left c.args.source.now; taken = g.K.Sink.taken c.args.sink.now; page = g.D.Desk.page c.args.desk.now; log = g.D.Desk.log c.args.desk.now; read_faults = g.S.Source.faults c.args.source.now; write_faults = g.K.Sink.faults c.args.sink.now } in
     let stands = stands_first start in
     ends_by_sink sink_fault.OutOfMemory status.Memory start start refl (λ e. absurd (cc)) (front_so_far stands) (short_so_far stands (omega arith)) stands.log_grows
+
+pub returns-in_default-room_for : goal.returns-in_default-room_for
+returns-in_default-room_for g c =
+    let start : Moment = record { left = g.S.Source.left c.args.source.now; taken = g.K.Sink.taken c.args.sink.now; page = g.D.Desk.page c.args.desk.now; log = g.D.Desk.log c.args.desk.now; read_faults = g.S.Source.faults c.args.source.now; write_faults = g.K.Sink.faults c.args.sink.now } in
+    let stands = stands_first start in
+    ends_by_sink sink_fault.OutOfMemory status.Memory start start refl (λ e. absurd (cc)) (front_so_far stands) (short_so_far stands (omega arith)) stands.log_grows
+
+pub same-pointer-in-pieces : goal.same-pointer-in-pieces
+same-pointer-in-pieces g c = refl

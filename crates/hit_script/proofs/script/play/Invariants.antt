@@ -1,6 +1,7 @@
 use Rattle.std.proofs.Common.{◌≡◌, ◌<◌, ◌-◌, ◌^◌, vec_len}
 use Rattle.hit_script.specs.Answered.{IsSpotted}
 use Rattle.hit_script.specs.Ending.{Moment}
+use Rattle.hit_script.specs.Room.{HasRoom}
 use Rattle.hit_script.proofs.Progress.{Reads}
 use Rattle.hit_script.proofs.script.play.Given as goal
 
@@ -14,6 +15,7 @@ invariant-pieces g l =
       spot : IsSpotted l.pointer;
       below : l.read < 2 ^ 32;
       room : vec_len l.piece ≡ 2 ^ 16;
+      answers : HasRoom (g.D.Desk.places l.desk) l.room.items;
     }
 
 abbrev pub decreases-pieces : goal.decreases-pieces

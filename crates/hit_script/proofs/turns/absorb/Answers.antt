@@ -14,6 +14,7 @@ loop-at-init g c = record {
   within = omega arith;
   fits = omega (arith, c.requires.fits);
   spot = c.requires.spot;
+  room = c.requires.room;
   begun = λ begun has. rw (append-nil begun, unfinished_none begun has.open_line) has.counts;
   log = grows_same _;
   answered = λ begun has. rw (append-nil begun, whole_lines_none begun has.open_line, no_lines) (appends_nothing _ c.args.out.now.items);
@@ -35,6 +36,7 @@ loop-at-preserved g c =
           let next : HasBegun c.loop-at.cutter (unfinished so_far) = record { counts = kept.begun begun has; open_line = newline_not_unfinished so_far } in
           taken.begun (unfinished so_far) next ∙ ap counted (sym (unfinished_more so_far part) ∙ ap unfinished (sym (next_part begun piece at n)));
       spot = c.take_part.ensures.spot;
+      room = taken.room;
       log = grows_both kept.log c.take_part.ensures.log;
       answered = λ begun has.
           let so_far = begun ++ take at piece in

@@ -8,6 +8,9 @@ use Rattle.hit_script.proofs.turns.reply_to.Goals as goal
 pub returns-clause-begun : goal.returns-clause-begun
 returns-clause-begun g c = on_ok c.write_all.result _ c.in_ok-absorb.ensures.begun
 
+pub returns-clause-room : goal.returns-clause-room
+returns-clause-room g c = on_ok c.write_all.result _ c.in_ok-absorb.ensures.room
+
 pub returns-clause-replied : goal.returns-clause-replied
 returns-clause-replied g c =
     handed_all c.write_all.result c.args.cutter.now (λ begun. lines (whole_lines (begun ++ c.args.piece.now))) _ _ _ _ c.deref.result.now c.write_all.ensures.ok
