@@ -15,10 +15,6 @@ pub taken_more : (before : Option (List ℕ)) (bytes : List ℕ) (at n : ℕ) �
 taken_more None bytes at n = refl
 taken_more (Some t) bytes at n = rw (take_rest bytes at, take-add at n bytes) (ap Some (append_assoc t (take at bytes) (take n (drop at bytes))))
 
--- a buffer that was written as a whole
-pub whole_buffer : (buffer new old : List ℕ) (n : ℕ) → buffer ≡ take n (new ++ drop (length new) old) → length new ≡ n → buffer ≡ new
-whole_buffer buffer new old n is size = is ∙ take_at new (drop (length new) old) n size
-
 -- the front of a buffer that has room
 pub front_length : (buffer : List ℕ) (count room n : ℕ) → count ≤ room → room ≤ n → length buffer ≡ n → length (take count buffer) ≡ count
 front_length buffer count room n within fits size = length-take-le count buffer (omega arith)

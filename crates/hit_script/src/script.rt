@@ -1,13 +1,15 @@
 // The loop over the pieces of a script, and the top call.
 ghost use Rattle.std.specs.Prelude.{◌≡◌, ◌≢◌, ◌↔◌, ◌⊎◌, ℕ, List, [], ◌++◌, ◌+◌, ◌<◌, ◌≤◌, ◌^◌, Option, Some, IfSome, IsSome, IsSomeAnd, None, length, drop, map};
 ghost use Rattle.std.specs.String.{string_bytes};
+ghost use Rattle.hit_script.specs.Cutting.{counted};
 ghost use Rattle.hit_script.specs.Ending.{Ends, Moment};
 ghost use Rattle.hit_script.specs.Ends.{ReadsAtMost, Rose, TakesAll, TakesFront};
 ghost use Rattle.hit_script.specs.Lines.{whole_lines};
 ghost use Rattle.hit_script.specs.Load.{counted_summary, load_summary, page_after_load};
 ghost use Rattle.hit_script.specs.Outcome.{fault_status};
 ghost use Rattle.hit_script.specs.Log.{Entry, Grows, scripted_replies};
-ghost use Rattle.hit_script.specs.Script.{first_page, page_after, replies};
+ghost use Rattle.hit_script.specs.Room.{HasRoom};
+ghost use Rattle.hit_script.specs.Script.{first_page, first_pointer, page_after, replies};
 ghost use Rattle.hit_script.specs.Tallied.{EndsLoad};
 ghost use Rattle.hit_script.specs.Words.{words_ask};
 
@@ -76,9 +78,43 @@ fn play<S: Source, K: Sink, D: Desk, L: Ledger>(
     let Ok(mut room) = room_for(alloc, desk.places()) else {
         return Status::Memory;
     };
+    play_pieces(
+        alloc,
+        source,
+        &mut piece,
+        &mut cutter,
+        sink,
+        desk,
+        &mut room,
+        &mut pointer,
+        steps,
+    )
+}
+
+// The same, with room for a piece, and with a cutter and a pointer that are new.
+#[tactic(none)]
+fn play_pieces<S: Source, K: Sink, D: Desk, L: Ledger>(
+    alloc: Global,
+    source: &mut S,
+    piece: &mut [u8],
+    cutter: &mut LineCutter,
+    sink: &mut K,
+    desk: &mut D,
+    room: &mut Vec<u32>,
+    pointer: &mut Pointer,
+    steps: &mut Steps<L>,
+) -> Status
+    requires piece { length piece.old ≡ 2 ^ 16 }
+    requires cutter { cutter.old ≡ counted [] }
+    requires room { HasRoom (D.places desk.old) room.old.items }
+    requires pointer { pointer.old ≡ first_pointer }
+    ensures { Ends result
+        (record { left = S.left source.old; taken = K.taken sink.old; page = D.page desk.old; log = D.log desk.old; read_faults = S.faults source.old; write_faults = K.faults sink.old })
+        (record { left = S.left source.new; taken = K.taken sink.new; page = D.page desk.new; log = D.log desk.new; read_faults = S.faults source.new; write_faults = K.faults sink.new }) }
+{
     let mut read = 0;
     'pieces: loop {
-        let Ok(count) = read_piece(source, &mut piece, room_after(read)) else {
+        let Ok(count) = read_piece(source, piece, room_after(read)) else {
             return Status::ReadFault;
         };
         if count == 0 {
@@ -93,24 +129,16 @@ fn play<S: Source, K: Sink, D: Desk, L: Ledger>(
             &piece[..count],
             sink,
             desk,
-            &mut room,
-            &mut pointer,
+            room,
+            pointer,
             steps,
-            &mut cutter,
+            cutter,
         );
         if let Err(fault) = replied {
             return status_of(fault);
         }
     }
-    match reply_to_last(
-        alloc,
-        &mut cutter,
-        sink,
-        desk,
-        &mut room,
-        &mut pointer,
-        steps,
-    ) {
+    match reply_to_last(alloc, cutter, sink, desk, room, pointer, steps) {
         Ok(()) => Status::Done,
         Err(fault) => status_of(fault),
     }

@@ -1,9 +1,9 @@
-use Rattle.std.proofs.Common.{◌≡◌, ◌<◌, ◌-◌, ◌^◌, vec_len}
+use Rattle.std.proofs.Common.{◌≡◌, ◌<◌, ◌-◌, ◌^◌, length}
 use Rattle.hit_script.specs.Answered.{IsSpotted}
 use Rattle.hit_script.specs.Ending.{Moment}
 use Rattle.hit_script.specs.Room.{HasRoom}
 use Rattle.hit_script.proofs.Progress.{Reads}
-use Rattle.hit_script.proofs.script.play.Given as goal
+use Rattle.hit_script.proofs.script.play_pieces.Given as goal
 
 -- the run has come so far
 abbrev pub invariant-pieces : goal.invariant-pieces
@@ -14,7 +14,7 @@ invariant-pieces g l =
       reads : Reads start now l.read l.cutter l.pointer;
       spot : IsSpotted l.pointer;
       below : l.read < 2 ^ 32;
-      room : vec_len l.piece ≡ 2 ^ 16;
+      room : length l.piece ≡ 2 ^ 16;
       answers : HasRoom (g.D.Desk.places l.desk) l.room.items;
     }
 
