@@ -9,8 +9,11 @@ use Rattle.hit_script.specs.Log.{Entry, IsFollowedBy, LogsAll, Logs, Grows, Scri
 
 -- A log goes on.
 
+pub logs_same : (log : Option (List Entry)) → LogsAll log log []
+logs_same log after told = (after, told, sym (append-nil after))
+
 pub grows_same : (log : Option (List Entry)) → Grows log log
-grows_same log after told = ([], (after, told, sym (append-nil after)))
+grows_same log after told = ([], logs_same log after told)
 
 pub follows_both : {first : Option (List Entry)} {mid : List Entry} {xs ys : List Entry} {after : List Entry} → IsFollowedBy first xs mid → IsFollowedBy (Some mid) ys after → IsFollowedBy first (xs ++ ys) after
 follows_both {first} {mid} {xs} {ys} {after} begins goes_on =

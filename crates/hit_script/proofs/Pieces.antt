@@ -1,5 +1,5 @@
 -- Lists that are read or written piece by piece.
-use Rattle.std.proofs.Common.{◌≡◌, ℕ, ◌+◌, ◌-◌, ◌≤◌, List, [], ◌∷◌, length, ◌++◌, take, drop, slice_set, Option, Some, None, option_map, refl, ap, ◌∙◌, append_assoc, arith}
+use Rattle.std.proofs.Common.{◌≡◌, ℕ, ◌+◌, ◌-◌, ◌≤◌, List, [], ◌∷◌, length, ◌++◌, take, drop, slice_set, Option, Some, None, option_map, refl, ap, append_assoc, arith}
 use Rattle.std.specs.List.{slice_range}
 use Rattle.std.proofs.lemmas.List.{take_at, take_rest, length-take-le}
 use Rattle.std.proofs.Math.Seq.{take-add}

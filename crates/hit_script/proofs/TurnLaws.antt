@@ -115,6 +115,10 @@ has_entries-more [] (x ∷ alive) id is same = absurd (omega (arith, same))
 has_entries-more (x ∷ ids) [] id is same = absurd (omega (arith, same))
 has_entries-more (x ∷ ids) (b ∷ alive) id is same = ap (λ (more : List Entry). HasEntry x b ∷ more) (has_entries-more ids alive id is (omega (arith, same)))
 
+pub alive_none : (page : Option Contents) → IfSome page (λ was. [] ≡ map (has_id was) [])
+alive_none None = tt
+alive_none (Some was) = refl
+
 pub alive_more : (page : Option Contents) (ids : List ℕ) (alive : List Bool) (id : ℕ) (is : Bool) → IfSome page (λ was. alive ≡ map (has_id was) ids) → IfSome page (λ was. is ≡ has_id was id) → IfSome page (λ was. alive ++ is ∷ [] ≡ map (has_id was) (ids ++ id ∷ []))
 alive_more None ids alive id is so_far told = tt
 alive_more (Some was) ids alive id is so_far told = rw (so_far, told) (one_more ids)
