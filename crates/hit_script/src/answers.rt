@@ -96,7 +96,6 @@ fn answer_fault(why: LineFault, out: &mut Vec<u8>) -> Result<(), OutOfMemory>
     }
 }
 
-#[tactic(auto, using(crate::proofs::TurnLaws::replied_beside, crate::proofs::TurnLaws::replied_fault))]
 fn answer_command<D: Desk, L: Ledger>(
     alloc: Global,
     asked: Result<Command, LineFault>,
