@@ -10,14 +10,13 @@ ghost use Rattle.tree_edits.specs.Faithful.{IsForestOf};
 
 use crate::lists::exchange_lists;
 use crate::memory::OutOfMemory;
-use crate::reach::{removed_ids, renewed_node};
+use crate::reach::{reached_ids, renewed_node};
 use crate::renewal::make_ready;
 use box_tree::{Done, Edit, EditFault, Page};
 use fractions::{Ledger, Steps};
 use paint_order::Forest;
 use spaces::laws::{frame_bound, frame_table};
 use spaces::{BoundOrMemory, SpaceTable};
-use stacking::touched;
 use std::alloc::Global;
 use std::marker::Model;
 
@@ -82,10 +81,7 @@ impl Engine {
         frame_bound();
         self.page.validity();
         let prepared = self.page.check(edit)?;
-        let Ok(removed) = removed_ids(self.alloc, &self.page, edit, steps) else {
-            return Err(EditFault::OutOfMemory);
-        };
-        let Ok(touched) = touched(self.alloc, &self.page, edit) else {
+        let Ok((removed, touched)) = reached_ids(self.alloc, &self.page, edit, steps) else {
             return Err(EditFault::OutOfMemory);
         };
         let subtree = renewed_node(&self.page, edit);

@@ -1,11 +1,18 @@
-// What an edit reaches: the subtree whose spaces it changes, and the ids that it takes out.
-ghost use Rattle.std.specs.Prelude.{◌≡◌, ◌++◌, IfOk, OnOk};
+// What an edit reaches: the subtree whose spaces it changes, the ids that it takes out, and the stacking contexts whose lists it
+// can change.
+ghost use Rattle.std.specs.Prelude.{◌≡◌, ◌++◌, ◌≤◌, ℕ, None, IsTrue, IsFalse, IfOk, OnOk};
+ghost use Rattle.box_tree.specs.Containing.{makes_context};
 ghost use Rattle.box_tree.specs.Contents.{tree_of, IsValid};
+ghost use Rattle.box_tree.specs.Edited.{first_fault, edited};
 ghost use Rattle.box_tree.specs.Forest.{ids_in};
+ghost use Rattle.box_tree.specs.Planned.{is_among, times_in};
 ghost use Rattle.spaces.specs.Table.{removed_ids, renewed_node};
+ghost use Rattle.stacking.specs.Frame.{KeepsList};
 
+use crate::memory::OutOfMemory;
 use box_tree::{Edit, Page};
 use fractions::{Ledger, Steps};
+use stacking::touched;
 use std::alloc::{AllocError, Global};
 
 /// The node that an edit of the page changes, whose subtree is renewed then: the next id for an add, and 0, for the whole
@@ -25,8 +32,28 @@ pub(crate) fn renewed_node(page: &Page, edit: &Edit) -> u32
     }
 }
 
-/// The ids that an edit takes out of the page, in tree order. It takes one step for each.
-pub(crate) fn removed_ids<L: Ledger>(
+/// The ids that an edit without a fault takes out of the page, and those of the stacking contexts whose lists it can change, each
+/// once. It takes one step for each that it takes out.
+pub(crate) fn reached_ids<L: Ledger>(
+    alloc: Global,
+    page: &Page,
+    edit: &Edit,
+    steps: &mut Steps<L>,
+) -> Result<(Vec<u32>, Vec<u32>), OutOfMemory>
+    requires valid { IsValid page.now.contents }
+    requires faultless { first_fault page.now.contents edit.now ≡ None }
+    ensures removed { IfOk result (λ ids. ids.0.items ≡ removed_ids page.now.contents edit.now) }
+    ensures contexts { IfOk result (λ ids. (id : ℕ) → IsTrue (is_among ids.1.items id) → IsTrue (makes_context page.now.contents id)) }
+    ensures once { IfOk result (λ ids. (id : ℕ) → times_in id ids.1.items ≤ 1) }
+    ensures all { IfOk result (λ ids. (id : ℕ) → IsTrue (makes_context page.now.contents id) → IsFalse (is_among ids.1.items id) → KeepsList page.now.contents (edited page.now.contents edit.now) id) }
+{
+    let removed = removed_ids(alloc, page, edit, steps)?;
+    let touched = touched(alloc, page, edit)?;
+    Ok((removed, touched))
+}
+
+// The ids that an edit takes out of the page, in tree order. It takes one step for each.
+fn removed_ids<L: Ledger>(
     alloc: Global,
     page: &Page,
     edit: &Edit,

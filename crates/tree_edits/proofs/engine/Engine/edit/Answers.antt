@@ -30,11 +30,6 @@ invariant_of-self-in_default g c =
     faithful-kept c.self.inside.page.contents c.check.new.self.contents c.self.inside.page.items c.check.new.self.items c.self.inside.spaces c.self.inside.spaces c.self.inside.forest c.self.inside.forest
     c.check.ensures.contents c.check.ensures.items (λ id. refl) (λ id. refl) refl c.self.invariant
 
-pub invariant_of-self-in_default-touched : goal.invariant_of-self-in_default-touched
-invariant_of-self-in_default-touched g c =
-    faithful-kept c.self.inside.page.contents c.check.new.self.contents c.self.inside.page.items c.check.new.self.items c.self.inside.spaces c.self.inside.spaces c.self.inside.forest c.self.inside.forest
-    c.check.ensures.contents c.check.ensures.items (λ id. refl) (λ id. refl) refl c.self.invariant
-
 pub apply-requires-clause-apart : goal.apply-requires-clause-apart
 apply-requires-clause-apart g c =
     let before = c.self.inside.page.contents in
@@ -42,7 +37,7 @@ apply-requires-clause-apart g c =
     let change = c.in-Ok-make_ready.change in
     let after_is : c.commit-undo.new.self.contents ≡ edited before edit = c.commit-undo.ensures.contents ∙ ap (edited c.check.new.self.contents) c.in_ok-prepared.ensures.prepared.0 ∙ ap (λ (p : Contents). edited p edit) c.check.ensures.contents in
     let node_is : c.renewed_node-subtree.result ≡ renewed_node before edit = c.renewed_node-subtree.ensures ∙ ap (λ (p : Contents). renewed_node p edit) c.check.ensures.contents in
-    let ids_are : c.as_slice-in-Ok-make_ready.result.now ≡ removed_ids before edit = c.as_slice-in-Ok-make_ready.ensures.value ∙ c.in-Ok.ensures ∙ ap (λ (p : Contents). removed_ids p edit) c.check.ensures.contents in
+    let ids_are : c.as_slice-in-Ok-make_ready.result.now ≡ removed_ids before edit = c.as_slice-in-Ok-make_ready.ensures.value ∙ c.in-Ok.ensures.removed ∙ ap (λ (p : Contents). removed_ids p edit) c.check.ensures.contents in
     let faultless : IsFaultless before edit = record { valid = c.validity.ensures; none = c.in_ok-prepared.ensures.faultless } in
     subst (λ (ids : List ℕ). All (λ id. new_entry change id ≡ None) ids) (sym ids_are)
     (c.frame_table.ensures.apart before edit faultless change
@@ -53,7 +48,7 @@ exchange_lists-requires g c =
     let tested = c.check.new.self.contents in
     let edit = c.args.edit.now in
     let old = c.self.inside.forest in
-    let touched = c.in-Ok-touched.touched.items in
+    let touched = c.in-Ok.touched.items in
     let fresh = c.in-Ok-make_ready.lists.items in
     let faultless : IsFaultless c.self.inside.page.contents edit = record { valid = c.validity.ensures; none = c.in_ok-prepared.ensures.faultless } in
     let kept : IsForestOf old c.self.inside.page.contents c.check.new.self.items =
@@ -69,9 +64,9 @@ exchange_lists-requires g c =
       same = c.make_ready.ensures.same;
       room = c.in-Ok-make_ready.ensures.room;
       lists = c.in-Ok-make_ready.ensures.lists;
-      real = c.in-Ok-touched.ensures.contexts;
-      once = c.in-Ok-touched.ensures.once;
-      all = c.in-Ok-touched.ensures.all;
+      real = c.in-Ok.ensures.contexts;
+      once = c.in-Ok.ensures.once;
+      all = c.in-Ok.ensures.all;
       touched_new = λ id among. c.in-Ok-make_ready.ensures.touched id (ap (λ (ids : List ℕ). is_among ids id) c.as_slice.ensures.value ∙ among);
       next_new = c.in-Ok-make_ready.ensures.next;
       bare = none-bare c.is_none-was_bare.result c.root.result (sym c.is_none-was_bare.ensures) ∙ ap is_bare c.root.ensures.root;
@@ -88,7 +83,7 @@ invariant_of-self-in-Ok-make_ready g c =
     let removed = c.as_slice-in-Ok-make_ready.result.now in
     let after_is : c.commit-undo.new.self.contents ≡ edited before edit = c.commit-undo.ensures.contents ∙ ap (edited c.check.new.self.contents) c.in_ok-prepared.ensures.prepared.0 ∙ ap (λ (p : Contents). edited p edit) c.check.ensures.contents in
     let node_is : c.renewed_node-subtree.result ≡ renewed_node before edit = c.renewed_node-subtree.ensures ∙ ap (λ (p : Contents). renewed_node p edit) c.check.ensures.contents in
-    let ids_are : removed ≡ removed_ids before edit = c.as_slice-in-Ok-make_ready.ensures.value ∙ c.in-Ok.ensures ∙ ap (λ (p : Contents). removed_ids p edit) c.check.ensures.contents in
+    let ids_are : removed ≡ removed_ids before edit = c.as_slice-in-Ok-make_ready.ensures.value ∙ c.in-Ok.ensures.removed ∙ ap (λ (p : Contents). removed_ids p edit) c.check.ensures.contents in
     let faultless : IsFaultless before edit = record { valid = c.validity.ensures; none = c.in_ok-prepared.ensures.faultless } in
     let valid' : IsValid (edited before edit) = subst IsValid after_is c.validity-2.ensures in
     let within : is_bounded_in (edited before edit) (renewed_node before edit) ≡ is_bounded (edited before edit) = c.frame_bound.ensures before edit faultless c.self.invariant.bounded valid' in
