@@ -1,4 +1,4 @@
-use Rattle.std.proofs.Common.{◌≡◌, w64, length, ap, ◌∙◌}
+use Rattle.std.proofs.Common.{◌≡◌, w64, length, refl, ap, ◌∙◌}
 use mir.Val.{to_z, of_z}
 use Rattle.hit_script.proofs.Limits.{coordinate_kept}
 use Rattle.hit_script.proofs.Logs.{grows_both, grows_by}
@@ -34,3 +34,21 @@ returns-clause-reply g c =
     c.chain_of_some-members.ensures.logged
     (rw kept at c.in_ok-alive.ensures.logged)
     (rw c.deref.ensures.value at c.print_turn.ensures.reply)
+
+pub top-target-requires-clause-x : goal.top-target-requires-clause-x
+top-target-requires-clause-x g c = rw (coordinate_kept c.args.turn.x c.requires.x) c.requires.x
+
+pub top-target-requires-clause-y : goal.top-target-requires-clause-y
+top-target-requires-clause-y g c = rw (coordinate_kept c.args.turn.y c.requires.y) c.requires.y
+
+pub returns-in_err-alive-clause-spot : goal.returns-in_err-alive-clause-spot
+returns-in_err-alive-clause-spot g c = refl
+
+pub print_turn-requires-clause-short : goal.print_turn-requires-clause-short
+print_turn-requires-clause-short g c = c.chain_of_some-members.ensures.short
+
+pub print_turn-requires-clause-flags : goal.print_turn-requires-clause-flags
+print_turn-requires-clause-flags g c = ap length c.deref.ensures.value ∙ c.in_ok-alive.ensures.count ∙ ap length c.chain.ensures.chain
+
+pub returns-clause-spot : goal.returns-clause-spot
+returns-clause-spot g c = c.print_turn.ensures.spot

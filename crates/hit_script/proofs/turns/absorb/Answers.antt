@@ -1,5 +1,5 @@
-use Rattle.std.proofs.Common.{◌-◌, ◌++◌, ℕ, length, length-take, length-drop, take, drop, sym, ap, ◌∙◌, arith}
-use Rattle.std.proofs.lemmas.List.{append-nil}
+use Rattle.std.proofs.Common.{◌-◌, ◌≤◌, ◌++◌, ℕ, length, length-take, length-drop, take, drop, sym, ap, ◌∙◌, arith}
+use Rattle.std.proofs.lemmas.List.{append-nil, take_all}
 use Rattle.hit_script.specs.Cutting.{counted}
 use Rattle.hit_script.specs.Lines.{HasBegun, lines, whole_lines, unfinished}
 use Rattle.hit_script.proofs.Answering.{appends_nothing, appends_both}
@@ -43,3 +43,34 @@ loop-at-preserved g c =
           let next : HasBegun c.loop-at.cutter (unfinished so_far) = record { counts = kept.begun begun has; open_line = newline_not_unfinished so_far } in
           rw (next_part begun piece at n, lines_more so_far part) (appends_both (lines (whole_lines so_far)) (lines (whole_lines (unfinished so_far ++ part))) c.args.out.now.items (kept.answered begun has) (taken.replies (unfinished so_far) next));
     }
+
+pub take_part-requires-clause-spot : goal.take_part-requires-clause-spot
+take_part-requires-clause-spot g c = c.loop-at.invariant.spot
+
+pub take_part-requires-clause-room : goal.take_part-requires-clause-room
+take_part-requires-clause-room g c = c.loop-at.invariant.room
+
+pub returns-in_err-at-clause-spot : goal.returns-in_err-at-clause-spot
+returns-in_err-at-clause-spot g c = c.take_part.ensures.spot
+
+pub returns-in_err-at-clause-log : goal.returns-in_err-at-clause-log
+returns-in_err-at-clause-log g c = grows_both c.loop-at.invariant.log c.take_part.ensures.log
+
+pub returns-clause-begun : goal.returns-clause-begun
+returns-clause-begun g c =
+    let over : length c.args.piece.now ≤ c.loop-at.at = omega (arith, c.loop-at-test.false) in
+    rw (take_all c.loop-at.at c.args.piece.now over) at c.loop-at.invariant.begun
+
+pub returns-clause-spot : goal.returns-clause-spot
+returns-clause-spot g c = c.loop-at.invariant.spot
+
+pub returns-clause-room : goal.returns-clause-room
+returns-clause-room g c = c.loop-at.invariant.room
+
+pub returns-clause-log : goal.returns-clause-log
+returns-clause-log g c = c.loop-at.invariant.log
+
+pub returns-clause-replies : goal.returns-clause-replies
+returns-clause-replies g c =
+    let over : length c.args.piece.now ≤ c.loop-at.at = omega (arith, c.loop-at-test.false) in
+    rw (take_all c.loop-at.at c.args.piece.now over) at c.loop-at.invariant.answered

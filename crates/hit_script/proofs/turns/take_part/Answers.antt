@@ -2,6 +2,7 @@ use Rattle.std.proofs.Common.{[], sym, ap, ◌∙◌, arith}
 use Rattle.hit_script.specs.Cutting.{Counted, counted, cut_by_newline}
 use Rattle.hit_script.proofs.Answering.{appends_nothing}
 use Rattle.hit_script.proofs.CutLaws.{count-counted, cutting-count, cutting-over, cutting-some, cutting-within, goes_on_by, ended_by}
+use Rattle.hit_script.proofs.Logs.{grows_same}
 use Rattle.hit_script.proofs.turns.take_part.Goals as goal
 
 -- The line goes on.
@@ -59,3 +60,12 @@ returns-in_ok-answer_cut-in_default-clause-replies g c = λ begun has.
     let took = c.take_piece-count.ensures in
     let end = ended_by c.args.cutter.now begun c.args.piece.now c.take_piece-count.result.0 c.take_piece-count.result.1 c.take_piece-count.new.self has took.taken took.cut took.counted c.in_default.not-More in
     rw end.one_whole (c.in_ok-answer_cut-in_default.ensures.reply end.line end.counts)
+
+pub returns-in-More-clause-spot : goal.returns-in-More-clause-spot
+returns-in-More-clause-spot g c = c.requires.spot
+
+pub returns-in-More-clause-room : goal.returns-in-More-clause-room
+returns-in-More-clause-room g c = c.requires.room
+
+pub returns-in-More-clause-log : goal.returns-in-More-clause-log
+returns-in-More-clause-log g c = grows_same _
