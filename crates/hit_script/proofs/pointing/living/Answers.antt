@@ -1,4 +1,4 @@
-use Rattle.std.proofs.Common.{◌≡◌, ◌≤◌, ◌<◌, ◌∷◌, [], length, length-append, take, get_or, refl, ◌∙◌, arith}
+use Rattle.std.proofs.Common.{◌≤◌, ◌<◌, ◌∷◌, [], length, length-append, take, get_or, refl, ◌∙◌, arith}
 use Rattle.std.proofs.lemmas.List.{take_all, take_more}
 use Rattle.hit_script.proofs.Logs.{grows_both, grows_by, grows_same, logs_both, logs_same}
 use Rattle.hit_script.proofs.TurnLaws.{has_entries-more, alive_more, alive_none}
