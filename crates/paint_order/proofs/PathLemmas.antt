@@ -1,6 +1,6 @@
 -- Ways down to items: the lesser of two ways leads to the earlier item of the flattened list, and where each list
 -- stands once there is one way from the root list to an item.
-use Rattle.std.proofs.Common.{◌≡◌, ℕ, zero, suc, ◌+◌, ◌≤◌, Bool, true, false, ◌&&◌, ◌||◌, inl, inr, List, [], ◌∷◌, length, Option, Some, None, Ordering, Less, Equal, Greater, cond, IsSome, eqb, ltb, slice_get, unwrap_or, reverse, refl, sym, ap, ◌∙◌, subst, arith}
+use Rattle.std.proofs.Common.{◌≡◌, ℕ, zero, suc, ◌+◌, ◌≤◌, Bool, true, false, ◌&&◌, ◌||◌, inl, inr, List, [], ◌∷◌, length, Option, Some, None, Ordering, Less, Equal, Greater, cond, IsSome, IsTrue, ◌↔◌, eqb, ltb, slice_get, unwrap_or, reverse, refl, sym, ap, ◌∙◌, subst, arith}
 use Rattle.std.proofs.Math.Bool.{or-false, and-false}
 use Rattle.std.proofs.lemmas.Bool.{or_cases, and_parts, and_from, false≢true, eqb-true, eq-eqb, ltb-true, lt-ltb, le-ltb, cases_eq}
 use Rattle.std.proofs.lemmas.List.{reverse-reverse}
@@ -353,3 +353,22 @@ module _ (lists : Lists) where
       let two = way_of_climb root l up.0 (b ∷ []) j up.1 (first_way l b j second) in
       sym (less_after up.0 (a ∷ []) (b ∷ []) ∙ less_ends a b)
       ∙ order_of_ways tables root i j n _ _ placed whole shallow one two
+
+  -- ---- whether an item is in the flattened root list
+
+  -- what stands in a whole forest is in the flattened root list
+  painted-standing : (root i n : ℕ) → IsWhole lists root → NestWithin n lists → Stands lists (Item i)
+      → is_member i (flattened n lists root) ≡ true
+  painted-standing root i n whole shallow stands =
+      let first = first_way stands.0 stands.1 i stands.2 in
+      let up = climb_from root i n n stands.0 (stands.1 ∷ []) whole shallow first (omega arith) in
+      let way = way_of_climb root stands.0 up.0 (stands.1 ∷ []) i up.1 first in
+      member-from_way n root _ i way (length_way n root _ i (shallow root) way)
+
+  -- and what is in a flattened list stands, so that one test tells both
+  pub member-standing : (root i n : ℕ) (test : Bool) → (IsTrue test ↔ Stands lists (Item i)) → IsWhole lists root
+      → NestWithin n lists → test ≡ is_member i (flattened n lists root)
+  member-standing root i n test stands whole shallow =
+      let down = λ (h : is_member i (flattened n lists root) ≡ true).
+      let way = way-from_member n root i h in stands.1 (standing-from_way root way.0 i way.1) in
+      same_tests _ _ (λ h. painted-standing root i n whole shallow (stands.0 h)) down

@@ -62,6 +62,12 @@ stands-at_place lists tables entry placed stands at kept =
     same_Some _ _ (sym kept ∙ placed stands.0 stands.1 entry stands.2) in
     subst (λ p. StandsAt lists entry p.list p.at) (sym here) stands.2
 
+-- what has no place stands nowhere
+pub nowhere-without_place : (lists : Lists) (tables : PlaceTables) (entry : Entry) → ArePlaced lists tables
+    → place_of tables entry ≡ None → Stands lists entry → ⊥
+nowhere-without_place lists tables entry placed none stands =
+    none-some (place stands.0 stands.1) (sym none ∙ placed stands.0 stands.1 entry stands.2)
+
 -- ---- the root list
 
 pub there-first : (n root : ℕ) → root < n → IsSome (list_under (set (replicate n None) root (Some [])) root)

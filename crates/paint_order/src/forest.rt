@@ -1,8 +1,8 @@
-ghost use Rattle.std.specs.Prelude.{◌≡◌, ◌≢◌, ◌+◌, ◌<◌, ◌≤◌, ℕ, [], ◌∷◌, ◌++◌, length, Some, None, IsSome, IfOk, IfErr, replicate, slice_set, vec_len, ◌-◌, is_some, if◌then◌else◌};
+ghost use Rattle.std.specs.Prelude.{◌≡◌, ◌≢◌, ◌+◌, ◌<◌, ◌≤◌, ℕ, [], ◌∷◌, ◌++◌, length, Some, None, IsSome, IfOk, IfErr, replicate, slice_set, vec_len, ◌-◌, is_some, if◌then◌else◌, IsTrue, ◌↔◌, slice_get};
 ghost use Rattle.std.specs.List.{All};
 ghost use Rattle.paint_order.specs.declared.entry.Entry.TheVariants.{Item};
-ghost use Rattle.paint_order.specs.Lists.{list_under, Stands, IsInRoom, AreDistinct, StandNowhereElse};
-ghost use Rattle.paint_order.specs.Order.{flattened, is_earlier, IsWhole, NestWithin};
+ghost use Rattle.paint_order.specs.Lists.{list_under, entries_of, Stands, StandsAt, IsInRoom, AreDistinct, StandNowhereElse};
+ghost use Rattle.paint_order.specs.Order.{flattened, is_earlier, is_member, IsWhole, NestWithin};
 ghost use Rattle.paint_order.specs.Paths.{LeadsTo, LeadsOn};
 ghost use Rattle.paint_order.specs.State.{list_room};
 
@@ -124,6 +124,40 @@ impl Forest {
         ensures { self.new ≡ record self.old { root = list } }
     {
         self.root = list;
+    }
+
+    /// Whether an item stands in a list, which in a whole forest means: in the flattened root list. One step.
+    pub fn stands<L: Ledger>(&self, item: u32, steps: &mut Steps<L>) -> bool
+        ensures stands { IsTrue result ↔ Stands self.now.lists (Item item) }
+        ensures painted { IsWhole self.now.lists self.now.root → NestWithin 256 self.now.lists
+            → result ≡ is_member item (flattened 256 self.now.lists self.now.root) }
+        ensures cost { steps.new ≡ steps.old + 1 }
+    {
+        steps.tick();
+        match self.places.of_item(item) {
+            None => false,
+            Some(place) => self.stands_at(item, place),
+        }
+    }
+
+    /// Whether an item stands at a place.
+    fn stands_at(&self, item: u32, place: Place) -> bool
+        ensures { IsTrue result ↔ StandsAt self.now.lists (Item item) place.list place.at }
+    {
+        match self.entry_at(place) {
+            Some(Entry::Item { item: there }) => there == item,
+            _ => false,
+        }
+    }
+
+    /// The entry that stands at a place, None where there is none.
+    fn entry_at(&self, place: Place) -> Option<Entry>
+        ensures { result ≡ slice_get (entries_of self.now.lists place.list) place.at }
+    {
+        match self.lists.get(place.list as usize) {
+            Some(Some(entries)) => entries.0.get(place.at).copied(),
+            _ => None,
+        }
     }
 
     /// Whether item `i` comes earlier than item `j` in the flattened root list, in which each list is replaced by its

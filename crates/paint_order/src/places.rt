@@ -1,6 +1,7 @@
 ghost use Rattle.std.specs.Prelude.{◌≡◌, ◌≢◌, ℕ, ◌+◌, ◌≤◌, [], length, Some, slice_get, IfOk, vec_len, max};
 ghost use Rattle.std.specs.List.{All};
 ghost use Rattle.paint_order.specs.declared.entry.Entry.{Entry};
+ghost use Rattle.paint_order.specs.declared.entry.Entry.TheVariants.{Item};
 ghost use Rattle.paint_order.specs.Lists.{IsInRoom, AreDistinct};
 ghost use Rattle.paint_order.specs.Places.{place, place_of};
 ghost use Rattle.paint_order.specs.declared.place.Place.{Place};
@@ -62,6 +63,13 @@ impl Places {
             Entry::Item { item } => self.items[item as usize],
             Entry::Sub { list } => self.lists[list as usize],
         }
+    }
+
+    /// The place of an item, or None for a number without room.
+    pub fn of_item(&self, item: u32) -> Option<Place>
+        ensures { result ≡ place_of self.now (Item item) }
+    {
+        self.items.get(item as usize).copied()
     }
 
     /// Writes the place of an entry, and no other.

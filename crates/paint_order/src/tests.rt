@@ -25,6 +25,20 @@ fn assert_order<L: Ledger>(rt: &impl Abort, forest: &Forest, items: &[u32], step
     }
 }
 
+/// Asks of each of the items whether it stands in a list.
+fn assert_stand<L: Ledger>(
+    rt: &impl Abort,
+    forest: &Forest,
+    items: &[u32],
+    expected: bool,
+    steps: &mut Steps<L>,
+) {
+    for item in items {
+        let stands = forest.stands(*item, steps);
+        assert_eq!(rt; stands, expected);
+    }
+}
+
 /// List 0 holds item 5, list 2, item 1 and list 1; list 2 holds item 3, list 3 and item 0; list 3 holds item 4; list
 /// 1 holds item 2.
 fn nested_lists<L: Ledger>(
@@ -56,7 +70,7 @@ fn nested_lists<L: Ledger>(
 }
 
 /// List 0 holds item 0, list 1 and item 1, and list 1 holds item 2. Then list 0 is put anew: item 1, item 3, list 1,
-/// item 0. More room changes nothing.
+/// item 0. More room changes nothing: items 4 and 8 have room and stand nowhere, and item 9 is past the room.
 fn list_put_anew<L: Ledger>(
     rt: &impl Abort,
     alloc: Global,
@@ -82,6 +96,8 @@ fn list_put_anew<L: Ledger>(
     );
     forest.reserve(9, 1)?;
     assert_order(rt, &forest, &[1, 3, 2, 0], steps);
+    assert_stand(rt, &forest, &[1, 3, 2, 0], true, steps);
+    assert_stand(rt, &forest, &[4, 8, 9], false, steps);
     Ok(())
 }
 
@@ -111,7 +127,8 @@ fn another_root<L: Ledger>(
     Ok(())
 }
 
-/// List 1 with item 1 comes before item 0. Then it is dropped, and its item stands behind item 0.
+/// List 1 with item 1 comes before item 0. Then it is dropped, and its item stands nowhere until it is put behind item
+/// 0.
 fn dropped_list<L: Ledger>(
     rt: &impl Abort,
     alloc: Global,
@@ -123,12 +140,14 @@ fn dropped_list<L: Ledger>(
     forest.put_list(0, vec![in alloc; Sub { list: 1 }, Item { item: 0 }]?, steps);
     forest.put_list(0, vec![in alloc; Item { item: 0 }]?, steps);
     forest.drop_list(1, steps);
+    assert_stand(rt, &forest, &[1], false, steps);
     forest.put_list(
         0,
         vec![in alloc; Item { item: 0 }, Item { item: 1 }]?,
         steps,
     );
     assert_order(rt, &forest, &[0, 1], steps);
+    assert_stand(rt, &forest, &[0, 1], true, steps);
     Ok(())
 }
 
