@@ -5,7 +5,6 @@ pub mod HullLemmas
 pub mod DenominatorLemmas
 pub mod LocalLemmas
 pub mod NearLemmas
-pub mod HeapLemmas
 pub mod TopmostLemmas
 pub mod OrderLemmas
 pub mod LayerLemmas

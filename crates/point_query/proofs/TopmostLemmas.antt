@@ -1,39 +1,47 @@
 -- The order of items by a forest is that of their places in its flattened list.
-use Rattle.std.proofs.Common.{◌≡◌, ℕ, zero, suc, ◌+◌, ◌<◌, ◌≤◌, ◌==◌, nat_lt, List, [], ◌∷◌, Bool, true, false, Some, slice_get, length, get_or, if◌then◌else◌, refl, sym, ap, ◌∙◌, arith}
+use Rattle.std.proofs.Common.{◌≡◌, ℕ, suc, ◌+◌, ◌<◌, ◌≤◌, ◌==◌, nat_lt, List, [], ◌∷◌, Bool, true, false, length, if◌then◌else◌, refl, sym, ap, ◌∙◌, arith}
 use Rattle.std.specs.Prelude.{◌&&◌, ◌||◌}
 use Rattle.std.specs.Cmp.{IsStrictWeakOrder}
-use Rattle.std.proofs.lemmas.Bool.{false≢true}
+use Rattle.std.proofs.lemmas.Bool.{false≢true, lt-ltb, le-ltb}
 use Rattle.std.proofs.lemmas.Bool.Decides.{nat_tests}
-use Rattle.std.proofs.lemmas.List.{get_or_default}
 use Rattle.std.proofs.lemmas.List.MinMax.{IsStrictWeakOrder-by_number, IsStrictWeakOrder-flip}
-use Rattle.paint_order.specs.declared.entry.Entry.{Entry}
-use Rattle.paint_order.specs.declared.entry.Entry.TheVariants.{Item, Sub}
-use Rattle.paint_order.specs.Lists.{Lists, entries_of, Stands}
-use Rattle.paint_order.specs.Order.{flattened, items_of, is_member, is_earlier}
-use Rattle.paint_order.proofs.FlatLemmas.{piece_of}
+use Rattle.paint_order.specs.Order.{is_member, is_earlier}
 use Rattle.point_query.specs.Topmost.{place_in, lies_above, times, StandOnce}
 
 pub above-order : (xs : List ℕ) → IsStrictWeakOrder (lies_above xs)
 above-order xs = IsStrictWeakOrder-flip _ (IsStrictWeakOrder-by_number (place_in xs))
 
--- what two places of a list compare as, at any default
-pub above-at : (xs numbers : List ℕ) (i j d : ℕ) (b : Bool) → i < length numbers → j < length numbers → b ≡ lies_above xs (get_or numbers i 0) (get_or numbers j 0) → lies_above xs (get_or numbers i d) (get_or numbers j d) ≡ b
-above-at xs numbers i j d b within within' is = rw (get_or_default numbers i d 0 within, get_or_default numbers j d 0 within') (sym is)
-
--- an item of a flattened list stands in a list
-pub flattened-stands : (levels : ℕ) (lists : Lists) (l i : ℕ) → is_member i (flattened levels lists l) ≡ true → Stands lists (Item i)
-unfolding flattened
-flattened-stands zero lists l i there = absurd (false≢true there)
-flattened-stands (suc levels) lists l i there =
-    let piece = piece_of (items_of (flattened levels lists)) i (entries_of lists l) there in
-    by_entry (λ m. flattened-stands levels lists m i) piece.0 piece.1 piece.2 piece.3
+-- what isn't in a list has the place past all that are
+place-at_most : (xs : List ℕ) (i : ℕ) → place_in xs i ≤ length xs
+place-at_most [] i = omega arith
+place-at_most (x ∷ xs) i = by_test (place-at_most xs i) (x == i)
   where
-    by_entry : ((m : ℕ) → is_member i (flattened levels lists m) ≡ true → Stands lists (Item i)) → (k : ℕ) (e : Entry) → slice_get (entries_of lists l) k ≡ Some e → is_member i (items_of (flattened levels lists) e) ≡ true → Stands lists (Item i)
-    by_entry below k (Item j) at is = (l, k, at ∙ ap (λ (n : ℕ). Some (Item n)) (same j is))
-      where
-        same : (j : ℕ) → is_member i (j ∷ []) ≡ true → j ≡ i
-        same j is = grind (arith, nat_tests)
-    by_entry below k (Sub m) at is = below m is
+    by_test : place_in xs i ≤ length xs → (b : Bool) → (if b then 0 else place_in xs i + 1) ≤ suc (length xs)
+    by_test rest true = omega arith
+    by_test rest false = omega (arith, rest)
+
+place-member : (xs : List ℕ) (i : ℕ) → is_member i xs ≡ true → place_in xs i < length xs
+place-member [] i there = absurd (false≢true there)
+place-member (x ∷ xs) i there = by_test (place-member xs i) (x == i) there
+  where
+    by_test : (is_member i xs ≡ true → place_in xs i < length xs) → (b : Bool) → (b || is_member i xs) ≡ true → (if b then 0 else place_in xs i + 1) < suc (length xs)
+    by_test rest true is = omega arith
+    by_test rest false is = omega (arith, rest is)
+
+place-none : (xs : List ℕ) (i : ℕ) → is_member i xs ≡ false → place_in xs i ≡ length xs
+place-none [] i none = refl
+place-none (x ∷ xs) i none = by_test (place-none xs i) (x == i) none
+  where
+    by_test : (is_member i xs ≡ false → place_in xs i ≡ length xs) → (b : Bool) → (b || is_member i xs) ≡ false → (if b then 0 else place_in xs i + 1) ≡ suc (length xs)
+    by_test rest true is = absurd (false≢true (sym is))
+    by_test rest false is = omega (arith, rest is)
+
+-- so it lies above them, and nothing lies above it
+pub above-none : (xs : List ℕ) (i j : ℕ) → is_member j xs ≡ false → lies_above xs i j ≡ false
+above-none xs i j none = let past = place-none xs j none in let most = place-at_most xs i in le-ltb _ _ (omega arith)
+
+pub none-above : (xs : List ℕ) (i j : ℕ) → is_member i xs ≡ false → is_member j xs ≡ true → lies_above xs i j ≡ true
+none-above xs i j none there = let past = place-none xs i none in let less = place-member xs j there in lt-ltb _ _ (omega arith)
 
 -- a number that is a member stands there at least once
 times-member : (i : ℕ) (xs : List ℕ) → is_member i xs ≡ true → 1 ≤ times i xs

@@ -155,7 +155,7 @@ fn topmost_first<L: Ledger>(
     page.validity();
     page.numbering();
     let count = candidates(page, room, steps);
-    order_topmost_first(forest, &mut room[..count], steps);
+    order_topmost_first(forest, &mut room[..count]);
     count
 }
 
