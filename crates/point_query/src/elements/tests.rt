@@ -1,6 +1,4 @@
-ghost use Rattle.std.specs.Prelude.{◌≡◌, ◌<◌, ◌≤◌, ◌+◌, length};
-ghost use Rattle.box_tree.specs.Contents.{IsWithin};
-ghost use Rattle.box_tree.specs.Items.{item_count};
+ghost use Rattle.std.specs.Prelude.{◌≡◌, ◌<◌};
 
 use super::*;
 use box_tree::{Edit, Kind, Piece, PieceList};
@@ -50,12 +48,9 @@ fn compare_at<L: Ledger>(
     y: i64,
     wanted: &[u32],
     steps: &mut Steps<L>,
-)
-    requires x { IsWithin 26 x }
-    requires y { IsWithin 26 y }
-    requires room { item_count engine.now.contents.tree + 256 ≤ length room.old }
-    ensures { length room.new ≡ length room.old }
-{
+) {
+    assert!(rt; -100_000 < x && x < 100_000 && -100_000 < y && y < 100_000);
+    assert!(rt; engine.page().item_count() as usize + 256 <= room.len());
     let ids = hit(engine, room, x, y, steps);
     assert_eq!(rt; ids, wanted, "{x} {y}");
     let id = top(engine, room, x, y, steps);
@@ -85,11 +80,10 @@ fn compare<L: Ledger>(
     let length = engine.page().item_count() as usize + 256;
     let mut room = vec![in alloc; 7; length]?;
     for &(x, y, wanted) in answers {
-        assert!(rt; -100_000 < x && x < 100_000 && -100_000 < y && y < 100_000);
         compare_at(rt, &engine, &mut room, x, y, wanted, &mut steps);
     }
     for &(id, wanted) in chains {
-        assert!(rt; engine.page().has(id));
+        assert!(rt; engine.page().has(id) && 256 <= room.len());
         let ids = crate::chain(&engine, &mut room, id, &mut steps);
         assert_eq!(rt; ids, wanted, "{id}");
     }
