@@ -121,11 +121,6 @@ forest-kept old new page items items' kept same root same_items = record {
   lists = λ id. same id ∙ kept.lists id ∙ ap (λ (list : List Entry). if makes_context page id then Some list else (if is_bare (roots_of page.tree) && (id == 0) then Some [] else None)) (sym (same-list items items' page id same_items));
 }
 
--- the forest of a page without a tree
-pub first-lists : (w h : ℤ) (items : ItemsState) (id : ℕ) → list_under (set (replicate 1 None) 0 (Some [])) id ≡ list_of (empty_page w h) items id
-first-lists w h items zero = refl
-first-lists w h items (suc id) = let not_zero : (suc id == 0) ≡ false = grind (arith, nat_tests) in sym (ap (λ (b : Bool). if b then Some [] else None) not_zero)
-
 -- whether a page has no tree, by its root
 pub none-bare : (none : Bool) (root : Option ℕ) → not none ≡ is_some root → none ≡ is_bare (option_to_list root)
 none-bare true None is = refl

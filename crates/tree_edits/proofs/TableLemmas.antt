@@ -131,10 +131,6 @@ each-at P [] k d all within = absurd (omega arith)
 each-at P (x ∷ xs) zero d all within = all.0
 each-at P (x ∷ xs) (suc k) d all within = each-at P xs k d all.1 (omega arith)
 
-pub each-more : {X : Type 0} (P : X → Type 0) (xs : List X) (x : X) → AllByRecursion P xs → P x → AllByRecursion P (xs ++ x ∷ [])
-each-more P [] x all one = (one, tt)
-each-more P (y ∷ xs) x all one = (all.0, each-more P xs x all.1 one)
-
 -- more room for lists
 room-more : (items lists lists' : ℕ) (entry : Entry) → lists ≤ lists' → IsInRoom items lists entry → IsInRoom items lists' entry
 room-more items lists lists' (Item i) more within = within
