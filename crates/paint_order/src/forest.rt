@@ -36,7 +36,7 @@ impl Model for Entries {
 
 /// Lists of items and of lists, under numbers, with one root list. Contracts see the lists, the root list's number and
 /// the room, which is one past the greatest item number and list number that may be used. The places of the entries
-/// are kept beside the lists, so that a query reads no list.
+/// are kept beside the lists, so that a comparison reads no list.
 #[derive(Drop)]
 pub struct Forest {
     root: u32,
