@@ -122,3 +122,16 @@ pub const HELD: &[u8] =
 
 pub const HELD_REPLIES: &[u8] =
     b"node 1\nnode 2\nnode 3\nnode 4\nhit 4 1\nok\nhit 1\nhit 4 3 2 1\nok\nhit 4 3 1\nhit 2 3 1\n";
+
+/// A block that reaches far out of the viewport, and one past its edge until it is wide enough.
+pub const FAR_OUT: &[u8] =
+    br#"{"op":"add","parent":0,"at":0,"kind":"block","boxes":[[0,0,0,100,100]],"style":{}}
+{"op":"add","parent":1,"at":0,"kind":"block","boxes":[[0,-50,-50,100,100]],"style":{"transform":[["scale",1000,1000,1]]}}
+{"op":"add","parent":1,"at":1,"kind":"block","boxes":[[0,90000,0,10,10]],"style":{}}
+{"op":"hit","x":99,"y":99}
+{"op":"hit","x":90005,"y":5}
+{"op":"resize","w":100000,"h":100,"max":[0,0]}
+{"op":"hit","x":90005,"y":5}
+"#;
+
+pub const FAR_OUT_REPLIES: &[u8] = b"node 1\nnode 2\nnode 3\nhit 2 1\nhit\nok\nhit 3 1\n";

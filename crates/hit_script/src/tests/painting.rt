@@ -1,6 +1,7 @@
 // Pages whose order of painting was worked out by hand: scripts and their replies.
 
-/// A positioned block without a level leaves its members to the root, until it has a level.
+/// A positioned block without a level leaves its members to the root, until it has a level; a member that moves out of it is the
+/// root's again.
 pub const AUTO_LEVEL: &[u8] =
     br#"{"op":"add","parent":0,"at":0,"kind":"block","boxes":[[0,0,0,100,100]],"style":{}}
 {"op":"add","parent":1,"at":0,"kind":"block","boxes":[[0,0,0,50,50]],"style":{"position":"relative"}}
@@ -9,10 +10,14 @@ pub const AUTO_LEVEL: &[u8] =
 {"op":"hit","x":10,"y":10}
 {"op":"style","id":2,"style":{"position":"relative","z":0}}
 {"op":"hit","x":10,"y":10}
+{"op":"move","id":3,"parent":1,"at":2}
+{"op":"hit","x":10,"y":10}
+{"op":"remove","id":2}
+{"op":"hit","x":10,"y":10}
 "#;
 
 pub const AUTO_LEVEL_REPLIES: &[u8] =
-    b"node 1\nnode 2\nnode 3\nnode 4\nhit 3 4 2 1\nok\nhit 4 3 2 1\n";
+    b"node 1\nnode 2\nnode 3\nnode 4\nhit 3 4 2 1\nok\nhit 4 3 2 1\nok\nhit 3 4 2 1\nok\nhit 3 4 1\n";
 
 /// An inline on two lines, and one inside it on the first.
 pub const LINES: &[u8] =

@@ -251,6 +251,7 @@ fn pages_of_boxes_are_answered(rt: HostRuntime) -> Result<(), Fail> {
     for (script, replies) in [
         (boxes::ANCHORS, boxes::ANCHORS_REPLIES),
         (boxes::RESIZED, boxes::RESIZED_REPLIES),
+        (boxes::FAR_OUT, boxes::FAR_OUT_REPLIES),
         (boxes::TEXT_IN_BORDERS, boxes::TEXT_IN_BORDERS_REPLIES),
         (boxes::PASSED_OVER, boxes::PASSED_OVER_REPLIES),
         (boxes::ROUNDED_CONTENT, boxes::ROUNDED_CONTENT_REPLIES),
