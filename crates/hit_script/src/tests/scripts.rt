@@ -204,6 +204,10 @@ fn scripts_are_answered(rt: HostRuntime) -> Result<(), Fail> {
     assert_replies(&rt, rt.alloc(), PLACES, PLACES_REPLIES)?;
     for (script, replies) in [
         (painting::AUTO_LEVEL, painting::AUTO_LEVEL_REPLIES),
+        (
+            painting::ALL_AT_ONE_POINT,
+            painting::ALL_AT_ONE_POINT_REPLIES,
+        ),
         (painting::LINES, painting::LINES_REPLIES),
         (painting::IMAGE, painting::IMAGE_REPLIES),
         (painting::HOLDERS, painting::HOLDERS_REPLIES),
