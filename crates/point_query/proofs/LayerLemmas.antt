@@ -34,42 +34,16 @@ use Rattle.stacking.proofs.CountLemmas.{count-append, all_items_are_painted}
 use Rattle.stacking.proofs.OnceLemmas as once
 use Rattle.stacking.proofs.ListLemmas.{each-append}
 use Rattle.stacking.proofs.NestLemmas.{lists-nest, lists-flatten}
-use Rattle.stacking.proofs.WholeLemmas.{lists-whole}
+use Rattle.stacking.proofs.EntryLemmas.{part_itself}
+use Rattle.stacking.proofs.WholeLemmas.{lists-whole, item_true}
 use Rattle.point_query.specs.Elements.{admits, element_of, elements_of}
 use Rattle.point_query.specs.Topmost.{times, lies_above, StandOnce, painted, IsPainted, IsOrdered, item_named, items_named}
 use Rattle.point_query.proofs.OrderLemmas.{passed-topmost_first}
 
 -- ---- items that are counted among others
 
-part_itself : (part : Part) → is_part part part ≡ true
-part_itself (Box place) = grind (arith, nat_tests)
-part_itself Content = refl
-part_itself Outline = refl
-
 item_itself : (item : Item) → is_item item item ≡ true
 item_itself item = let same : (item.node == item.node) ≡ true = grind (arith, nat_tests) in rw same (part_itself item.part)
-
-part_true : (part other : Part) → is_part part other ≡ true → other ≡ part
-part_true (Box place) (Box other) same = let is : other ≡ place = grind (arith, nat_tests) in ap Box is
-part_true (Box place) Content same = absurd (false≢true same)
-part_true (Box place) Outline same = absurd (false≢true same)
-part_true Content (Box other) same = absurd (false≢true same)
-part_true Content Content same = refl
-part_true Content Outline same = absurd (false≢true same)
-part_true Outline (Box other) same = absurd (false≢true same)
-part_true Outline Content same = absurd (false≢true same)
-part_true Outline Outline same = refl
-
-item_true : (item other : Item) → is_item item other ≡ true → other ≡ item
-item_true item other same = by_tests (other.node == item.node) (is_part item.part other.part) refl refl same
-  where
-    by_tests : (a b : Bool) → (other.node == item.node) ≡ a → is_part item.part other.part ≡ b → (a && b) ≡ true → other ≡ item
-    by_tests true true is is' both =
-        let node_is : other.node ≡ item.node = grind (arith, nat_tests) in
-        let part_is = part_true item.part other.part is' in
-        ap (λ (i : ℕ). let it : Item = record { node = i; part = other.part } in it) node_is ∙ ap (λ (p : Part). let it : Item = record { node = item.node; part = p } in it) part_is
-    by_tests true false is is' both = absurd (false≢true both)
-    by_tests false b is is' both = absurd (false≢true both)
 
 -- what holds of each item that is counted among some holds of all
 each-counted : (P : Item → Type 0) (items : List Item) → ((item : Item) → 0 < count (is_item item) items → P item) → AllByRecursion P items

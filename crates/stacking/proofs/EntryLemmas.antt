@@ -179,7 +179,7 @@ weight (SubContext id) = sub_weight id
 itself : (n : ℕ) → (n == n) ≡ true
 itself n = grind (arith, nat_tests)
 
-part_itself : (part : Part) → is_part part part ≡ true
+pub part_itself : (part : Part) → is_part part part ≡ true
 part_itself (Box place) = itself place
 part_itself Content = refl
 part_itself Outline = refl

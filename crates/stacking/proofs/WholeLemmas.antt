@@ -47,7 +47,7 @@ part_true Outline (Box other) same = absurd (false≢true same)
 part_true Outline Content same = absurd (false≢true same)
 part_true Outline Outline same = refl
 
-item_true : (item other : Item) → is_item item other ≡ true → other ≡ item
+pub item_true : (item other : Item) → is_item item other ≡ true → other ≡ item
 item_true item other same = by_tests (other.node == item.node) (is_part item.part other.part) refl refl same
   where
     by_tests : (a b : Bool) → (other.node == item.node) ≡ a → is_part item.part other.part ≡ b → (a && b) ≡ true → other ≡ item
