@@ -3,7 +3,6 @@ use Rattle.std.proofs.Common.{◌≡◌, ℕ, ℤ, List, [], ◌∷◌, map, Opt
 use Rattle.std.specs.Prelude.{◌&&◌, IfSome}
 use Rattle.std.specs.Option.{option_map, option_map_or}
 use Rattle.computed_style.specs.declared.inherited.Inherited.{Inherited}
-use Rattle.computed_style.specs.Ranges.{IsSide}
 use Rattle.box_tree.specs.declared.item.Item.{Item}
 use Rattle.box_tree.specs.declared.node.Node.{Node}
 use Rattle.box_tree.specs.Forest.{Label, Placed}
@@ -15,7 +14,7 @@ use Rattle.spaces.specs.declared.table.entry.Entry.{Entry}
 use Rattle.spaces.specs.Spaces.{local_point}
 use Rattle.spaces.specs.Table.{entry_of, entry_under, local_point_under, IsTableOf}
 use Rattle.spaces.specs.Values.{values_below, values}
-use Rattle.spaces.proofs.TableFrameLemmas.{entry-values, entry-width, entry-local_point}
+use Rattle.spaces.proofs.TableFrameLemmas.{entry-values, entry-local_point}
 use Rattle.scroll_clip.specs.Clips.{inside_clips}
 use Rattle.point_query.specs.ImageMaps.{area_at, area_under}
 use Rattle.point_query.specs.Elements.{element_as, element_of, part_admits, row_holds, admits, elements_of}
@@ -62,22 +61,13 @@ module _ (table : List (Option Entry)) (page : Contents) (is : IsTableOf table p
   kept : option_map (λ entry. entry.values) (entry_of page item.node) ≡ Some inherited
   kept = ap (option_map (λ entry. entry.values)) (sym (is item.node)) ∙ values_are
 
-  -- its values are those of the node, with a stroke within its limits
+  -- its values are those of the node
   values-kept : values page item.node ≡ Some inherited
   values-kept = sym (entry-values page item.node (there (entry_of page item.node) kept)) ∙ kept
     where
       there : (o : Option Entry) → option_map (λ entry. entry.values) o ≡ Some inherited → IsSome o
       there None none = cc
       there (Some entry) some = refl
-
-  pub width-kept : IsValid page → IsSide 26 inherited.stroke_width
-  width-kept valid = by_entry (entry_of page item.node) kept (entry-width page item.node valid)
-    where
-      by_entry : (o : Option Entry) → option_map (λ entry. entry.values) o ≡ Some inherited → IfSome o (λ entry. IsSide 26 entry.values.stroke_width) → IsSide 26 inherited.stroke_width
-      by_entry None none width = absurd cc
-      by_entry (Some entry) some width =
-          let same : entry.values ≡ inherited = cc in
-          subst (λ (v : Inherited). IsSide 26 v.stroke_width) same width
 
   -- and its local point is that of the page
   pub elements_of-kept : (x y : ℤ) (node : Node) (at : FinePoint) → node_of page item.node ≡ Some node → Some at ≡ local_point_under table item.node x y →

@@ -1,13 +1,12 @@
 -- The local rectangle of a part of a node holds each local point at which the part is admitted. A box and a content lie inside
 -- the border edges of their box; the bounds of a shape hold what its interior and its perimeter hold.
-use Rattle.std.proofs.Common.{◌≡◌, ℕ, ℤ, pos, ◌+ℤ◌, ◌*ℤ◌, ◌≤ℤ◌, ◌<ℤ◌, unsigned_abs, ◌⊎◌, inl, inr, Option, Some, None, IsSomeAnd, Bool, true, false, Decides, refl, sym, ◌∙◌, arith}
+use Rattle.std.proofs.Common.{◌≡◌, ℕ, ℤ, unsigned_abs, ◌⊎◌, inl, inr, Option, Some, None, IsSomeAnd, Bool, true, false, Decides, refl, sym, ◌∙◌, arith}
 use Rattle.std.specs.Prelude.{◌&&◌, int_le, slice_get}
 use Rattle.std.specs.Option.{option_map, option_map_or, option_and_then}
 use Rattle.std.proofs.lemmas.Bool.{false≢true, and_parts}
 use Rattle.std.proofs.lemmas.Bool.Decides.{Decides-and}
 use Rattle.std.proofs.lemmas.Int.{ints}
 use Rattle.fractions.specs.declared.rect.Rect.{Rect}
-use Rattle.affine.proofs.FloorLemmas.{IsFloor-floor_of}
 use Rattle.corner_shapes.specs.Held.{in_rounded}
 use Rattle.corner_shapes.proofs.HeldLemmas.{le-decides, in_rounded-decides}
 use Rattle.poly_shapes.specs.declared.point.Bounds.{Bounds}
@@ -34,9 +33,10 @@ use Rattle.spaces.specs.declared.space.FinePoint.{FinePoint}
 use Rattle.spaces.proofs.WalkLemmas.{and-false}
 use Rattle.spaces.proofs.WidthLemmas.{side-at}
 use Rattle.scroll_clip.specs.Curves.{border_curve, padding_curve, HasCurvesInRange}
+use Rattle.tree_edits.specs.Bounds.{shape_in, box_rect, units_around, part_rect}
+use Rattle.tree_edits.proofs.BoundsLemmas.{unit_at-below, unit_at-above}
 use Rattle.point_query.specs.Elements.{part_admits}
-use Rattle.point_query.specs.Outlines.{fill_rule_of, cap_of, shape_in, is_over_fill, is_over_stroke, shape_admits}
-use Rattle.point_query.specs.Near.{box_rect, units_around, unit_at, part_rect}
+use Rattle.point_query.specs.Outlines.{fill_rule_of, cap_of, is_over_fill, is_over_stroke, shape_admits}
 use Rattle.point_query.proofs.HullLemmas.{HoldsFine}
 
 -- some rectangle of whole units holds a point in fine units
@@ -129,16 +129,6 @@ shape-reached shape values at is = elim (over-one values (is_over_fill shape val
   | inl over ↦ interior-reached shape (fill_rule_of values.rule) (unsigned_abs values.stroke_width) at.x at.y over
   | inr over ↦ perimeter-reached shape (unsigned_abs values.stroke_width) (cap_of values.ends) at.x at.y over
 ]
-
-unit_at-below : (z : ℤ) → (pos 64 *ℤ unit_at z) ≤ℤ z
-unit_at-below z =
-    let floor = (IsFloor-floor_of z (pos 64) (λ zero'. absurd (omega (arith, ints, zero')))).at_most (omega (arith, ints)) in
-    omega (arith, ints)
-
-unit_at-above : (z : ℤ) → z <ℤ (pos 64 *ℤ (unit_at z +ℤ pos 1))
-unit_at-above z =
-    let next = (IsFloor-floor_of z (pos 64) (λ zero'. absurd (omega (arith, ints, zero')))).next_above (omega (arith, ints)) in
-    omega (arith, ints)
 
 held-in_units : (b : Bounds) (x y : ℤ) → Holds b x y → HoldsFine (units_around b) x y
 held-in_units b x y held = record {

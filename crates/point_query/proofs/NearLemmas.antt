@@ -27,7 +27,8 @@ use Rattle.scroll_clip.specs.Curves.{HasCurvesInRange}
 use Rattle.scroll_clip.specs.Clips.{inside_clips}
 use Rattle.stacking.specs.Counting.{items_in}
 use Rattle.point_query.specs.Elements.{part_admits, row_holds, admits, is_inside}
-use Rattle.point_query.specs.Near.{part_rect, viewport_rect, is_singular, bounds_in, view_bounds, meets_cell_at, near_items}
+use Rattle.tree_edits.specs.Bounds.{part_rect, viewport_rect, is_singular, bounds_in, view_bounds}
+use Rattle.point_query.specs.Near.{meets_cell_at, near_items}
 use Rattle.point_query.proofs.LocalLemmas.{IsHeldIn, held-admitted}
 use Rattle.point_query.proofs.DenominatorLemmas.{denominator-space}
 use Rattle.point_query.proofs.HullLemmas.{HoldsFine, holds-hull, holds-shared}

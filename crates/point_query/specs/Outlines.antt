@@ -1,5 +1,5 @@
 -- The outline of a shape as a target (SVG 2, "The 'pointer-events' property").
-use Rattle.std.specs.Prelude.{Option, None, Some, Bool, false, unsigned_abs}
+use Rattle.std.specs.Prelude.{Bool, false, unsigned_abs}
 use Rattle.std.specs.Option.{option_map_or}
 use Rattle.poly_shapes.specs.declared.point.Cap.{Cap}
 use Rattle.poly_shapes.specs.declared.point.Cap.TheVariants as cap
@@ -13,10 +13,9 @@ use Rattle.computed_style.specs.declared.style.Rule.TheVariants.{NonZero, EvenOd
 use Rattle.computed_style.specs.declared.style.Ends.{Ends}
 use Rattle.computed_style.specs.declared.style.Ends.TheVariants.{Butt, Round, Square}
 use Rattle.computed_style.specs.PointerEvents.{shape_is_target}
-use Rattle.box_tree.specs.declared.form.Form.{Form}
-use Rattle.box_tree.specs.declared.form.Form.TheVariants.{Outline, Cover, View, Port, MapName}
 use Rattle.box_tree.specs.Forest.{Label}
 use Rattle.spaces.specs.declared.space.FinePoint.{FinePoint}
+use Rattle.tree_edits.specs.Bounds.{shape_in}
 
 -- 'fill-rule' as the rule by which a fill is tested
 abbrev pub fill_rule_of : Rule → FillRule
@@ -40,15 +39,6 @@ is_over_stroke shape values at = is_on_perimeter shape (unsigned_abs values.stro
 -- whether a shape with these values is a target for a pointer at a point
 abbrev pub shape_admits : Shape → Inherited → FinePoint → Bool
 shape_admits shape values at = shape_is_target values (is_over_fill shape values at) (is_over_stroke shape values at)
-
--- the shape of a form, where it is an outline
-abbrev pub shape_in : Option Form → Option Shape
-shape_in None = None
-shape_in (Some (Outline shape)) = Some shape
-shape_in (Some (Cover area)) = None
-shape_in (Some (View view)) = None
-shape_in (Some (Port port)) = None
-shape_in (Some (MapName map)) = None
 
 -- whether the outline of a node, where it has one, is a target for a pointer at a local point
 abbrev pub outline_admits : Label → Inherited → FinePoint → Bool

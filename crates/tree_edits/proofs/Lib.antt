@@ -1,4 +1,10 @@
+pub mod BoundsLemmas
+pub mod CellLemmas
+pub mod ChangesLemmas
 pub mod ExchangeLemmas
+pub mod FrameLemmas
+pub mod GoneLemmas
 pub mod NumberLemmas
+pub mod PlaceLemmas
 pub mod RenewalLemmas
 pub mod TableLemmas

@@ -1,12 +1,13 @@
 // What an edit reaches: the subtree whose spaces it changes, the ids that it takes out, and the stacking contexts whose lists it
 // can change.
 ghost use Rattle.std.specs.Prelude.{◌≡◌, ◌++◌, ◌≤◌, ℕ, None, IsTrue, IsFalse, IfOk, OnOk};
+ghost use Rattle.std.specs.Option.{option_map_or};
 ghost use Rattle.box_tree.specs.Containing.{makes_context};
 ghost use Rattle.box_tree.specs.Contents.{tree_of, IsValid};
 ghost use Rattle.box_tree.specs.Edited.{first_fault, edited};
-ghost use Rattle.box_tree.specs.Forest.{ids_in};
+ghost use Rattle.box_tree.specs.Forest.{ids_in, End};
 ghost use Rattle.box_tree.specs.Planned.{is_among, times_in};
-ghost use Rattle.spaces.specs.Table.{removed_ids, renewed_node};
+ghost use Rattle.spaces.specs.Table.{removed_ids, renewed_node, subtree_of};
 ghost use Rattle.stacking.specs.Frame.{KeepsList};
 
 use crate::memory::OutOfMemory;
@@ -88,4 +89,34 @@ fn push_ids<L: Ledger>(
         push_ids(page, *child, ids, steps)?;
     }
     Ok(())
+}
+
+/// The ids of a node of the page and of all below it, in tree order, or those of the whole page where the id is 0. It takes one
+/// step for each.
+pub(crate) fn subtree_ids<L: Ledger>(
+    alloc: Global,
+    page: &Page,
+    subtree: u32,
+    steps: &mut Steps<L>,
+) -> Result<Vec<u32>, AllocError>
+    requires { IsValid page.now.contents }
+    ensures { IfOk result (λ ids. ids.items ≡ ids_in (subtree_of page.now.contents subtree)) }
+{
+    let mut ids = Vec::new(alloc);
+    if let Some(top) = top_of(page, subtree) {
+        push_ids(page, top, &mut ids, steps)?;
+    }
+    Ok(ids)
+}
+
+// The node whose subtree is meant: the root where the id is 0.
+fn top_of(page: &Page, subtree: u32) -> Option<u32>
+    requires { IsValid page.now.contents }
+    ensures { subtree_of page.now.contents subtree ≡ option_map_or (λ top. tree_of page.now.contents top) result End }
+{
+    if subtree == 0 {
+        page.root()
+    } else {
+        Some(subtree)
+    }
 }

@@ -7,10 +7,11 @@ use mir.Val.{to_z, of_z}
 use Rattle.scroll_clip.proofs.ClipLemmas.{curves-seen, form-seen}
 use Rattle.scroll_clip.specs.Clips.{inside_clips}
 use Rattle.box_tree.specs.Kept.{label_of}
-use Rattle.spaces.specs.Table.{local_point_under}
+use Rattle.spaces.specs.Table.{entry_under, local_point_under}
+use Rattle.tree_edits.proofs.BoundsLemmas.{width-entered}
 use Rattle.point_query.specs.Elements.{element_as}
 use Rattle.point_query.specs.ImageMaps.{area_at}
-use Rattle.point_query.proofs.AdmissionLemmas.{elements_of-kept, width-kept}
+use Rattle.point_query.proofs.AdmissionLemmas.{elements_of-kept}
 use Rattle.point_query.proofs.admission.admitted_element.Goals as goal
 
 pub part_admits-requires-clause-curves : goal.part_admits-requires-clause-curves
@@ -21,7 +22,7 @@ part_admits-requires-clause-form g c = form-seen c.args.page.now.contents c.vali
 
 pub part_admits-requires-clause-width : goal.part_admits-requires-clause-width
 part_admits-requires-clause-width g c =
-    width-kept c.args.spaces.now c.args.page.now.contents c.requires.table c.args.item c.values_of-values.result.now c.values_of-values.ensures.values c.validity.ensures
+    width-entered c.args.page.now.contents c.args.item (entry_under c.args.spaces.now c.args.item.node) (c.requires.table c.args.item.node) c.values_of-values.result.now c.values_of-values.ensures.values c.validity.ensures
 
 pub element_of-requires : goal.element_of-requires
 element_of-requires g c = curves-seen c.args.page.now.contents c.validity.ensures c.args.item.node c.node-node.result.now c.node-node.ensures.node
