@@ -119,14 +119,6 @@ module _ (page : Contents) (item : Item) (entry : Option Entry) (kept : entry �
       by_entry None none = absurd cc
       by_entry (Some e) is = refl
 
-  -- a node with a space is in the page
-  pub there-entered : (s : Parts) → option_and_then (λ e. e.space) entry ≡ Some s → IsTrue (has_id page item.node)
-  there-entered s some = by_place (placed_of page item.node) (subst IsSome kept (some-entry s some))
-    where
-      by_place : (o : Option Placed) → IsSome (option_and_then (entry_placed page.viewport) o) → is_some o ≡ true
-      by_place None none = absurd cc
-      by_place (Some p) is = refl
-
   -- the width of its stroke is within its limits
   pub width-entered : (v : Inherited) → option_map (λ e. e.values) entry ≡ Some v → IsValid page → IsSide 26 v.stroke_width
   width-entered v some valid = by_entry entry some (subst (λ (o : Option Entry). IfSome o (λ e. IsSide 26 e.values.stroke_width)) (sym kept) (entry-width page item.node valid))
