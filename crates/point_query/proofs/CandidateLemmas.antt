@@ -44,7 +44,7 @@ member-cases x (y ∷ xs) ys = by_test (y == x) (member-cases x xs ys)
     by_test true rest = refl
     by_test false rest = rest
 
-times-append : (x : ℕ) (xs ys : List ℕ) → times x (xs ++ ys) ≡ times x xs + times x ys
+pub times-append : (x : ℕ) (xs ys : List ℕ) → times x (xs ++ ys) ≡ times x xs + times x ys
 times-append x [] ys = omega arith
 times-append x (y ∷ xs) ys = omega (arith, times-append x xs ys)
 
@@ -93,7 +93,7 @@ fewer-others x (y ∷ xs) there = by_test (y == x) there (fewer-others x xs) (at
     by_test false is rest most = omega (arith, rest is)
 
 -- numbers that stand once, all of them members of a list, are no more than it has
-once-fewer : (zs xs : List ℕ) → StandOnce zs → ((x : ℕ) → is_member x zs ≡ true → is_member x xs ≡ true) → length zs ≤ length xs
+pub once-fewer : (zs xs : List ℕ) → StandOnce zs → ((x : ℕ) → is_member x zs ≡ true → is_member x xs ≡ true) → length zs ≤ length xs
 once-fewer [] xs once within = omega arith
 once-fewer (z ∷ zs) xs once within =
     let others = filter (λ y. not (y == z)) xs in
@@ -111,11 +111,11 @@ once-fewer (z ∷ zs) xs once within =
 
 -- ---- the numbers of a page
 
-counted-all : (items : List Item) → count (λ item. true) items ≡ length items
+pub counted-all : (items : List Item) → count (λ item. true) items ≡ length items
 counted-all [] = refl
 counted-all (item ∷ items) = omega (arith, counted-all items)
 
-trees-count : (above : List Label) (f : Forest) → length (items_in above f) ≡ item_count f
+pub trees-count : (above : List Label) (f : Forest) → length (items_in above f) ≡ item_count f
 trees-count above End = refl
 trees-count above (Grow n below others) =
     let p : Placed = record { label = n; above = above; below = below } in

@@ -62,7 +62,7 @@ counted-at (other ∷ items) zero item d within is =
 counted-at (other ∷ items) (suc k) item d within is = omega (arith, counted-at items k item d (omega arith) is)
 
 -- where one is counted, it is one for which any test that all pass holds
-counted-each : (P : Item → Type 0) (items : List Item) → AllByRecursion P items → (item : Item) → 0 < count (is_item item) items → P item
+pub counted-each : (P : Item → Type 0) (items : List Item) → AllByRecursion P items → (item : Item) → 0 < count (is_item item) items → P item
 counted-each P [] all item some = absurd (omega arith)
 counted-each P (other ∷ items) all item some = by_test (counted-each P items all.1 item) (is_item item other) refl
   where
@@ -83,7 +83,7 @@ module _ (page : Contents) (valid : IsValid page) where
       let node_is : item.node ≡ n.id = (are_placed page valid n.id k d within).0 in
       subst (λ (id : ℕ). Contains (node_items page id) item) (sym node_is) (k, within, get_or_default (node_items page n.id) k item d within)))
 
-  trees-items : (above : List Label) (f : Forest) → AreAtPlaces page above f → AllByRecursion (IsItem page) (items_in above f)
+  pub trees-items : (above : List Label) (f : Forest) → AreAtPlaces page above f → AllByRecursion (IsItem page) (items_in above f)
   trees-items above End known = tt
   trees-items above (Grow n below others) known =
       let here = node-items n above below known.0 in
@@ -122,7 +122,7 @@ placed-counted item (Grow n below others) above id p found =
         by_place (Some q) is' in_first = omega (arith, all, in_first is')
 
 -- an item of the page is painted
-painted-item : (page : Contents) (item : Item) → IsValid page → IsItem page item → 0 < count (is_item item) (root_layer page.tree)
+pub painted-item : (page : Contents) (item : Item) → IsValid page → IsItem page item → 0 < count (is_item item) (root_layer page.tree)
 painted-item page item valid is = by_place (placed_of page item.node) refl
   where
     by_place : (o : Option Placed) → placed_of page item.node ≡ o → 0 < count (is_item item) (root_layer page.tree)
@@ -134,7 +134,7 @@ painted-item page item valid is = by_place (placed_of page item.node) refl
 
 -- ---- numbers and items
 
-member-map : (f : Item → ℕ) (n : ℕ) (items : List Item) → is_member n (map f items) ≡ true → (item : Item) × (0 < count (is_item item) items) × (f item ≡ n)
+pub member-map : (f : Item → ℕ) (n : ℕ) (items : List Item) → is_member n (map f items) ≡ true → (item : Item) × (0 < count (is_item item) items) × (f item ≡ n)
 member-map f n [] there = absurd (false≢true there)
 member-map f n (item ∷ items) there = by_test (member-map f n items) (f item == n) refl there
   where
@@ -142,7 +142,7 @@ member-map f n (item ∷ items) there = by_test (member-map f n items) (f item =
     by_test rest true is m = let same : f item ≡ n = grind (arith, nat_tests) in (item, omega (arith, (ap {B = ℕ} (λ b. if b then 1 else 0) (item_itself item))), same)
     by_test rest false is m = let found = rest m in (found.0, omega (arith, found.1), found.2)
 
-map-member : (f : Item → ℕ) (item : Item) (items : List Item) → 0 < count (is_item item) items → is_member (f item) (map f items) ≡ true
+pub map-member : (f : Item → ℕ) (item : Item) (items : List Item) → 0 < count (is_item item) items → is_member (f item) (map f items) ≡ true
 map-member f item [] some = absurd (omega arith)
 map-member f item (other ∷ items) some = by_test (map-member f item items) (is_item item other) refl
   where
@@ -161,13 +161,13 @@ times-nowhere n (x ∷ xs) none = by_test (x == n) none (times-nowhere n xs)
 
 module _ (page : Contents) (valid : IsValid page) (s : ItemsState) (are : IsNumberedPage page s) where
   -- the number of an item
-  number-names : (item : Item) → IsItem page item → Names s (number_of s item) item
+  pub number-names : (item : Item) → IsItem page item → Names s (number_of s item) item
   number-names item is = let has = are.each item is in subst (λ (n : ℕ). Names s n item) (sym has.1.number_is) has.1
 
   same-number : (item other : Item) → IsItem page item → IsItem page other → number_of s other ≡ number_of s item → other ≡ item
   same-number item other is is' same = are.one_item (number_of s item) other item (subst (λ (n : ℕ). Names s n other) same (number-names other is')) (number-names item is)
 
-  times-number : (item : Item) → IsItem page item → (items : List Item) → AllByRecursion (IsItem page) items → times (number_of s item) (map (number_of s) items) ≡ count (is_item item) items
+  pub times-number : (item : Item) → IsItem page item → (items : List Item) → AllByRecursion (IsItem page) items → times (number_of s item) (map (number_of s) items) ≡ count (is_item item) items
   times-number item is [] all = refl
   times-number item is (other ∷ items) all = ap (λ (b : Bool). (if b then 1 else 0) + times (number_of s item) (map (number_of s) items)) (alike (number_of s other == number_of s item) (is_item item other) refl refl) ∙ ap (λ k. (if is_item item other then 1 else 0) + k) (times-number item is items all.1)
     where

@@ -10,3 +10,4 @@ pub mod OrderLemmas
 pub mod LayerLemmas
 pub mod KeptLemmas
 pub mod CandidateLemmas
+pub mod CellLemmas

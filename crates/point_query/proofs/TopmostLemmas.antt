@@ -44,7 +44,7 @@ pub none-above : (xs : List ℕ) (i j : ℕ) → is_member i xs ≡ false → is
 none-above xs i j none there = let past = place-none xs i none in let less = place-member xs j there in lt-ltb _ _ (omega arith)
 
 -- a number that is a member stands there at least once
-times-member : (i : ℕ) (xs : List ℕ) → is_member i xs ≡ true → 1 ≤ times i xs
+pub times-member : (i : ℕ) (xs : List ℕ) → is_member i xs ≡ true → 1 ≤ times i xs
 times-member i [] there = absurd cc
 times-member i (x ∷ xs) there = by_test (times-member i xs) (x == i) there
   where

@@ -1,9 +1,10 @@
 -- Which items may lie under a point: those whose bounds in the viewport meet the cell of the point in a grid (own). The bounds
 -- hold each point at which the item is admitted.
-use Rattle.std.specs.Prelude.{List, [], Bool, ℤ}
+use Rattle.std.specs.Prelude.{ℕ, zero, suc, ◌++◌, List, [], Bool, ℤ}
 use Rattle.std.specs.List.{filter}
 use Rattle.fractions.specs.declared.rect.Rect.{Rect}
 use Rattle.spatial_index.specs.Cells.{line_of, level_of, is_met}
+use Rattle.spatial_index.specs.Contents.{GridState, cell_at}
 use Rattle.box_tree.specs.declared.item.Item.{Item}
 use Rattle.box_tree.specs.Contents.{Contents}
 use Rattle.stacking.specs.Counting.{items_in}
@@ -16,3 +17,8 @@ meets_cell_at bounds x y = is_met bounds (level_of bounds) (line_of (level_of bo
 -- the items of a page whose bounds meet the cell of a point, in tree order
 abbrev pub near_items : Contents → ℤ → ℤ → List Item
 near_items page x y = filter (λ item. meets_cell_at (view_bounds page item) x y) (items_in [] page.tree)
+
+-- the members of the cells of a point in a grid, in the levels below one, level by level
+abbrev pub members_below : GridState → (x y : ℤ) → ℕ → List ℕ
+members_below grid x y zero = []
+members_below grid x y (suc level) = members_below grid x y level ++ (cell_at grid level (line_of level x) (line_of level y)).items
