@@ -1,6 +1,6 @@
 -- The bounds of an item lie in the viewport, and are those of its part in the space and by the values that a table has of its
 -- node.
-use Rattle.std.proofs.Common.{◌≡◌, ℕ, ℤ, pos, ◌+ℤ◌, ◌*ℤ◌, ◌<ℤ◌, ◌≤ℤ◌, inl, inr, List, [], ◌∷◌, Option, Some, None, IsSome, IsTrue, is_some, Bool, true, false, if◌then◌else◌, refl, sym, ap, subst, ◌∙◌, arith}
+use Rattle.std.proofs.Common.{◌≡◌, ℕ, ℤ, pos, ◌+ℤ◌, ◌*ℤ◌, ◌<ℤ◌, ◌≤ℤ◌, inl, inr, List, [], ◌∷◌, Option, Some, None, IsSome, Bool, true, false, if◌then◌else◌, refl, sym, ap, subst, ◌∙◌, arith}
 use Rattle.std.specs.Prelude.{IfSome, int_lt, ◌&&◌}
 use Rattle.std.specs.Int.{int_max, int_min}
 use Rattle.std.specs.Option.{option_map, option_map_or, option_and_then}
@@ -21,13 +21,13 @@ use Rattle.box_tree.specs.declared.item.Item.{Item}
 use Rattle.box_tree.specs.declared.node.Node.{Node}
 use Rattle.box_tree.specs.declared.viewport.Viewport.{Viewport}
 use Rattle.box_tree.specs.Forest.{Label, Placed}
-use Rattle.box_tree.specs.Contents.{Contents, placed_of, node_of, has_id, IsValid}
+use Rattle.box_tree.specs.Contents.{Contents, node_of, IsValid}
 use Rattle.box_tree.specs.Kept.{label_of}
 use Rattle.box_tree.proofs.PlacedLemmas.{IsSeenAt, seen_at}
 use Rattle.spatial_index.specs.Cells.{IsEmptyOrInside}
 use Rattle.spaces.specs.declared.table.entry.Entry.{Entry}
 use Rattle.spaces.specs.Spaces.{space}
-use Rattle.spaces.specs.Table.{entry_of, entry_placed}
+use Rattle.spaces.specs.Table.{entry_of}
 use Rattle.spaces.specs.Values.{values_below}
 use Rattle.spaces.proofs.TableFrameLemmas.{entry-space, entry-values, entry-width}
 use Rattle.tree_edits.specs.Bounds.{unit_at, part_rect, local_rect, viewport_rect, is_singular, bounds_in, view_bounds}

@@ -1,9 +1,11 @@
 pub mod BoundsLemmas
 pub mod CellLemmas
 pub mod ChangesLemmas
+pub mod EditLemmas
 pub mod ExchangeLemmas
 pub mod FrameLemmas
 pub mod GoneLemmas
+pub mod ItemGridLemmas
 pub mod NumberLemmas
 pub mod PlaceLemmas
 pub mod RenewalLemmas

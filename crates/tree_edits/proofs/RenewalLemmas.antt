@@ -1,5 +1,5 @@
 -- A forest of the page before an edit, with the new lists, has all that the exchange asks.
-use Rattle.std.proofs.Common.{◌≡◌, ◌≢◌, ◌⊎◌, ℕ, ◌<◌, ◌≤◌, ◌==◌, List, [], Option, Some, None, is_some, Bool, true, false, if◌then◌else◌, refl, sym, ap, ◌∙◌, subst, inl, inr, arith, replicate, set, zero, suc}
+use Rattle.std.proofs.Common.{◌≡◌, ◌≢◌, ◌⊎◌, ℕ, ◌<◌, ◌≤◌, ◌==◌, List, [], ◌∷◌, Option, Some, None, is_some, Bool, true, false, if◌then◌else◌, refl, sym, ap, ◌∙◌, subst, inl, inr, arith, zero, suc}
 use Rattle.std.specs.Prelude.{◌&&◌, not, unwrap_or, ℤ}
 use Rattle.std.specs.List.{AllByRecursion}
 use Rattle.std.specs.Option.{option_or, option_to_list}
@@ -18,19 +18,23 @@ use Rattle.box_tree.specs.Planned.{is_among, times_in}
 use Rattle.paint_order.specs.declared.entry.Entry.{Entry}
 use Rattle.paint_order.specs.Lists.{list_under}
 use Rattle.paint_order.specs.State.{State}
-use Rattle.spaces.specs.declared.table.entry.Entry.{Entry as SpaceEntry}
 use Rattle.spaces.specs.declared.table.fault.BoundOrMemory.{BoundOrMemory}
 use Rattle.spaces.specs.declared.table.fault.BoundOrMemory.TheVariants as unrenewed
 use Rattle.spaces.specs.Bound.{is_bounded}
-use Rattle.spaces.specs.Table.{entry_under, renewed_node}
+use Rattle.spaces.specs.declared.table.entry.Entry.{Entry as SpaceEntry}
+use Rattle.spaces.specs.Table.{renewed_node, IsTableOf}
+use Rattle.spaces.proofs.TableFrameLemmas.{table-empty}
 use Rattle.stacking.specs.Frame.{is_next_to, KeepsList}
 use Rattle.stacking.specs.Lists.{kept_list}
 use Rattle.stacking.proofs.MadeLemmas.{made-there, made-next, view-contexts}
 use Rattle.stacking.proofs.WholeLemmas.{lists-keep_numbers}
+use Rattle.tree_edits.specs.Committed.{KeepsAll}
 use Rattle.tree_edits.specs.Edits.{bound_fault, fault_of, first_fault}
 use Rattle.tree_edits.specs.Exchange.{ContextList, IsListOf, HasRoomFor, MayExchange, contexts_of}
+use Rattle.tree_edits.specs.declared.kept.Kept.{Kept}
 use Rattle.tree_edits.specs.Faithful.{is_bare, list_of, IsForestOf, IsFaithful}
 use Rattle.tree_edits.proofs.ExchangeLemmas.{given-context}
+use Rattle.tree_edits.proofs.ItemGridLemmas.{empty-kept, items-kept, stand-still}
 use Rattle.tree_edits.proofs.NumberLemmas.{same-list}
 use Rattle.tree_edits.proofs.TableLemmas.{Slot}
 
@@ -55,6 +59,11 @@ pub record IsReady (page after : Contents) (edit : Edit) (node : ℕ) (items ite
   pub touched_new : (id : ℕ) → is_among touched id ≡ true → makes_context after id ≡ true → is_among (contexts_of fresh) id ≡ true
   pub next_new : (id : ℕ) → has_id after node ≡ true → makes_context after id ≡ true → is_next_to after node id ≡ true → is_among (contexts_of fresh) id ≡ true
   pub bare : was_bare ≡ is_bare (roots_of page.tree)
+
+-- only under 0 stands the empty list of a page without a tree
+none-under : (bare : Bool) (id : ℕ) → 0 < id → (if bare && (id == 0) then blank else None) ≡ None
+none-under true id positive = let not_zero : (id == 0) ≡ false = grind (arith, nat_tests) in ap (λ (b : Bool). if b then blank else None) not_zero
+none-under false id positive = refl
 
 -- the list of a stacking context, and of what is none
 list_of-context : (page : Contents) (items : ItemsState) (id : ℕ) (b : Bool) → makes_context page id ≡ b →
@@ -85,10 +94,6 @@ module _ (page after : Contents) (edit : Edit) (node : ℕ) (items items' : Item
           (ap (has_id after) same ∙ ap (λ (p : Contents). has_id p x) ready.after_is ∙ made-there page edit x id ready.faultless is plain real')
           real
           (ap (λ (k : ℕ). is_next_to after k id) same ∙ ap (λ (p : Contents). is_next_to p x id) ready.after_is ∙ made-next page edit x id ready.faultless is plain real')
-
-  none-under : (bare : Bool) (id : ℕ) → 0 < id → (if bare && (id == 0) then blank else None) ≡ None
-  none-under true id positive = let not_zero : (id == 0) ≡ false = grind (arith, nat_tests) in ap (λ (b : Bool). if b then blank else None) not_zero
-  none-under false id positive = refl
 
   pub may-exchange : MayExchange forest after items' touched fresh was_bare
   may-exchange = record {
@@ -134,13 +139,30 @@ pub refused : (page : Contents) (edit : Edit) (why : BoundOrMemory) (fault : Edi
 refused page edit unrenewed.Bound fault is none beyond other = ap (λ (o : Option EditFault). option_or o (bound_fault (is_bounded (edited page edit)))) none ∙ ap bound_fault (beyond refl) ∙ ap Some (sym is)
 refused page edit unrenewed.OutOfMemory fault is none beyond other = absurd (other is)
 
--- an engine whose page was tested, or changed and changed back
-pub faithful-kept : (page page' : Contents) (items items' : ItemsState) (spaces spaces' : List (Option SpaceEntry)) (forest forest' : State) →
-    page' ≡ page → HasSameItems items items' → ((id : ℕ) → entry_under spaces' id ≡ entry_under spaces id) → ((id : ℕ) → list_under forest'.lists id ≡ list_under forest.lists id) → forest'.root ≡ forest.root →
-    IsFaithful page items spaces forest → IsFaithful page' items' spaces' forest'
-faithful-kept page page' items items' spaces spaces' forest forest' page_is same_items entries lists root faithful =
-    subst (λ (p : Contents). IsFaithful p items' spaces' forest') (sym page_is) (record {
+-- what is kept beside a page that was tested, or changed and changed back, is still faithful
+pub faithful-kept : (page page' : Contents) (items items' : ItemsState) (kept kept' : Kept) → page' ≡ page → HasSameItems items items' → KeepsAll kept kept' → IsFaithful page items kept → IsFaithful page' items' kept'
+faithful-kept page page' items items' kept kept' page_is same_items same faithful =
+    subst (λ (p : Contents). IsFaithful p items' kept') (sym page_is) (record {
       bounded = faithful.bounded;
-      table = λ id. entries id ∙ faithful.table id;
-      lists = forest-kept forest forest' page items items' faithful.lists lists root same_items;
+      table = λ id. same.entries id ∙ faithful.table id;
+      lists = forest-kept kept.forest kept'.forest page items items' faithful.lists same.lists same.root same_items;
+      grid = items-kept kept.item_grid kept'.item_grid page items items' faithful.grid same.items same_items;
     })
+
+pub keeps-all : (kept : Kept) → KeepsAll kept kept
+keeps-all kept = record { entries = λ id. refl; lists = λ id. refl; root = refl; items = stand-still kept.item_grid }
+
+-- what is kept beside an empty page
+pub faithful-empty : (w h : ℤ) (page : Contents) (items : ItemsState) (kept : Kept) → page ≡ empty_page w h → IsNumberedPage page items → kept.spaces ≡ [] → kept.forest ≡ record { lists = blank ∷ []; root = 0; item_room = 0 } →
+    kept.item_grid.grid.region ≡ record { width = w; height = h } → kept.item_grid.bounds ≡ [] → IsFaithful page items kept
+faithful-empty w h page items kept page_is numbered spaces forest region bounds =
+    subst (λ (p : Contents). IsFaithful p items kept) (sym page_is) (record {
+      bounded = refl;
+      table = subst (λ (table : List (Option SpaceEntry)). IsTableOf table (empty_page w h)) (sym spaces) (table-empty w h);
+      lists = subst (λ (state : State). IsForestOf state (empty_page w h) items) (sym forest) (record { root = refl; lists = λ id. by_id id });
+      grid = empty-kept kept.item_grid w h items region bounds (subst (λ (p : Contents). IsNumberedPage p items) page_is numbered);
+    })
+  where
+    by_id : (id : ℕ) → list_under (blank ∷ []) id ≡ list_of (empty_page w h) items id
+    by_id zero = refl
+    by_id (suc id) = sym (none-under true (suc id) (omega arith))

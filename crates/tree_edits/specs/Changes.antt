@@ -1,5 +1,5 @@
 -- What an edit makes of the bounds of items.
-use Rattle.std.specs.Prelude.{ℕ, ◌<◌, ◌≤◌, ◌++◌, ◌==◌, if◌then◌else◌, List, [], ◌∷◌, map, length, drop, slice_get}
+use Rattle.std.specs.Prelude.{ℕ, ◌<◌, ◌≤◌, ◌++◌, ◌==◌, if◌then◌else◌, Bool, true, false, List, [], ◌∷◌, map, length, drop, slice_get}
 use Rattle.std.specs.List.{flat_map}
 use Rattle.std.specs.Option.{option_map_or}
 use Rattle.fractions.specs.declared.rect.Rect.{Rect}
@@ -59,6 +59,22 @@ numbers_before page items (Scroll id x y) = []
 numbers_before page items (Resize w h max) = []
 numbers_before page items (ScrollView x y) = []
 
--- those of them that no item has after the edit: the ones behind those that the edited node still has
+-- those of some numbers that stand behind as many as a node has
+abbrev pub behind : ItemsState → ℕ → List ℕ → List ℕ
+behind items node numbers = drop (length (numbers_of items node)) numbers
+
+-- those of the numbers before that no item has after the edit: the ones behind those that the edited node still has
 abbrev pub gone_numbers : Contents → (old new : ItemsState) → Edit → List ℕ
-gone_numbers page old new edit = drop (length (numbers_of new (renewed_node page edit))) (numbers_before page old edit)
+gone_numbers page old new edit = behind new (renewed_node page edit) (numbers_before page old edit)
+
+-- the edit gives the viewport other sides
+abbrev pub gives_sides : Edit → Bool
+gives_sides (Add parent at kind boxes style) = false
+gives_sides (Remove id) = false
+gives_sides (Move id parent at) = false
+gives_sides (Place id anchor boxes max) = false
+gives_sides (Restyle id style) = false
+gives_sides (Reshape id form) = false
+gives_sides (Scroll id x y) = false
+gives_sides (Resize w h max) = true
+gives_sides (ScrollView x y) = false

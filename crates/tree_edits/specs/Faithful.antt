@@ -8,9 +8,10 @@ use Rattle.paint_order.specs.declared.entry.Entry.{Entry as ListEntry}
 use Rattle.paint_order.specs.Lists.{list_under}
 use Rattle.paint_order.specs.State.{State}
 use Rattle.stacking.specs.Lists.{kept_list}
-use Rattle.spaces.specs.declared.table.entry.Entry.{Entry}
 use Rattle.spaces.specs.Bound.{is_bounded}
 use Rattle.spaces.specs.Table.{IsTableOf}
+use Rattle.tree_edits.specs.declared.kept.Kept.{Kept}
+use Rattle.tree_edits.specs.ItemGrid.{IsItemGridOf}
 
 -- the number of the root list: the id of the root, and 0 without one
 abbrev pub root_number : List ℕ → ℕ
@@ -32,8 +33,9 @@ pub record IsForestOf (forest : State) (page : Contents) (items : ItemsState) : 
   pub root : forest.root ≡ root_number (roots_of page.tree)
   pub lists : (number : ℕ) → list_under forest.lists number ≡ list_of page items number
 
--- the page is within the bound on maps, the table is that of the page, and so are the lists
-pub record IsFaithful (page : Contents) (items : ItemsState) (spaces : List (Option Entry)) (forest : State) : Type 0 where
+-- the page is within the bound on maps, the table is that of the page, and so are the lists and the grid of its items
+pub record IsFaithful (page : Contents) (items : ItemsState) (kept : Kept) : Type 0 where
   pub bounded : IsTrue (is_bounded page)
-  pub table : IsTableOf spaces page
-  pub lists : IsForestOf forest page items
+  pub table : IsTableOf kept.spaces page
+  pub lists : IsForestOf kept.forest page items
+  pub grid : IsItemGridOf kept.item_grid page items

@@ -5,28 +5,29 @@ ghost use Rattle.box_tree.specs.Edited.{IsInRange, edited, answer_of};
 ghost use Rattle.box_tree.specs.Numbers.{KeepsNumbers, GivesFreshNumbers, HasSameItems};
 ghost use Rattle.spaces.specs.Bound.{is_bounded};
 ghost use Rattle.spaces.specs.Table.{IsTableOf};
+ghost use Rattle.tree_edits.specs.Cells.{IsGridOf};
 ghost use Rattle.tree_edits.specs.Edits.{first_fault, fault_of};
 ghost use Rattle.tree_edits.specs.Faithful.{IsForestOf};
 
-use crate::lists::exchange_lists;
+use crate::kept::Kept;
+use crate::laws::grid_of_bounds;
 use crate::memory::OutOfMemory;
-use crate::reach::{reached_ids, renewed_node};
-use crate::renewal::make_ready;
+use crate::reach::reach_of;
 use box_tree::{Done, Edit, EditFault, Page};
 use fractions::{Ledger, Steps};
 use paint_order::Forest;
-use spaces::laws::{frame_bound, frame_table};
 use spaces::{BoundOrMemory, SpaceTable};
+use spatial_index::Grid;
 use std::alloc::Global;
 use std::marker::Model;
 
 /// A page that is edited and queried, which clauses see as its contents and the numbers of its items, with the table of its
-/// spaces and the forest of its painting lists. No partial product of any of its nodes passes the bound on maps.
+/// spaces, the forest of its painting lists and the grid of its items. No partial product of any of its nodes passes the bound
+/// on maps.
 #[derive(Drop)]
 pub struct Engine {
     page: Page,
-    spaces: SpaceTable,
-    forest: Forest,
+    kept: Kept,
     alloc: Global,
 }
 
@@ -44,7 +45,7 @@ impl Model for Engine {
 
     ghost use Rattle.tree_edits.specs.Faithful.{IsFaithful};
 
-    ghost invariant = { λ e. IsFaithful e.page.contents e.page.items e.spaces e.forest };
+    ghost invariant = { λ e. IsFaithful e.page.contents e.page.items e.kept };
 }
 
 impl Engine {
@@ -54,11 +55,11 @@ impl Engine {
         requires height { (pos 1 ≤ℤ h) × (h ≤ℤ pos (2 ^ 20)) }
         ensures { IfOk result (λ engine. engine.contents ≡ empty_page w h) }
     {
-        frame_table();
+        let page = Page::new(alloc, w, h);
+        page.numbering();
         Ok(Engine {
-            page: Page::new(alloc, w, h),
-            spaces: SpaceTable::new(alloc),
-            forest: Forest::new(alloc, 0)?,
+            page,
+            kept: Kept::new(alloc, w, h)?,
             alloc,
         })
     }
@@ -77,39 +78,17 @@ impl Engine {
         ensures unchanged { OnErr result (self.new.contents ≡ self.old.contents) }
         ensures same_items { OnErr result (HasSameItems self.old.items self.new.items) }
     {
-        frame_table();
-        frame_bound();
         self.page.validity();
         let prepared = self.page.check(edit)?;
-        let Ok((removed, touched)) = reached_ids(self.alloc, &self.page, edit, steps) else {
+        let Ok(reach) = reach_of(self.alloc, &self.page, edit, steps) else {
             return Err(EditFault::OutOfMemory);
         };
-        let subtree = renewed_node(&self.page, edit);
-        let was_bare = self.page.root().is_none();
         self.page.numbering();
         let undo = self.page.commit(prepared);
         self.page.validity();
-        match make_ready(
-            self.alloc,
-            &self.page,
-            &mut self.spaces,
-            &mut self.forest,
-            subtree,
-            touched.as_slice(),
-        ) {
-            Ok((change, lists)) => {
-                self.spaces.apply(change, removed.as_slice(), steps);
-                exchange_lists(
-                    self.alloc,
-                    &mut self.forest,
-                    &self.page,
-                    touched.as_slice(),
-                    lists,
-                    was_bare,
-                    steps,
-                );
-                Ok(self.page.settle(undo))
-            }
+        self.page.numbering();
+        match self.kept.follow(self.alloc, &self.page, &reach, steps) {
+            Ok(()) => Ok(self.page.settle(undo)),
             Err(why) => {
                 self.page.revert(undo);
                 Err(fault_of(why))
@@ -130,7 +109,7 @@ impl Engine {
     pub fn spaces(&self) -> &SpaceTable
         ensures { IsTableOf result.now self.now.contents }
     {
-        &self.spaces
+        &self.kept.spaces
     }
 
     /// The lists of the stacking contexts of the page as it stands, each under the id of the context and with the numbers of
@@ -138,7 +117,17 @@ impl Engine {
     pub fn forest(&self) -> &Forest
         ensures { IsForestOf result.now self.now.contents self.now.items }
     {
-        &self.forest
+        &self.kept.forest
+    }
+
+    /// The grid over the whole points of the viewport, in which each item of the page as it stands is in the cells that its bounds
+    /// meet, under its number, and nothing else.
+    pub fn grid(&self) -> &Grid
+        ensures { IsGridOf result.now self.now.contents self.now.items }
+    {
+        grid_of_bounds();
+        self.kept.item_grid.soundness();
+        self.kept.item_grid.grid()
     }
 }
 

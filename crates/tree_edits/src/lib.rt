@@ -15,13 +15,14 @@
 #![tactic(auto)]
 
 mod bounds;
-mod cells;
+mod changes;
 mod engine;
+mod item_grid;
+mod kept;
 pub mod laws;
 mod lists;
 mod memory;
 mod reach;
-mod renewal;
 
 pub use engine::Engine;
 pub use memory::OutOfMemory;

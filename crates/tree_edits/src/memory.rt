@@ -29,3 +29,9 @@ impl From<paint_order::OutOfMemory> for OutOfMemory {
         OutOfMemory
     }
 }
+
+impl From<spatial_index::OutOfMemory> for OutOfMemory {
+    fn from(_error: spatial_index::OutOfMemory) -> OutOfMemory {
+        OutOfMemory
+    }
+}

@@ -1,14 +1,16 @@
-// What an edit reaches: the subtree whose spaces it changes, the ids that it takes out, and the stacking contexts whose lists it
-// can change.
+// What an edit reaches: the subtree whose spaces it changes, the ids that it takes out, the stacking contexts whose lists it can
+// change, and the nodes that it can take items from.
 ghost use Rattle.std.specs.Prelude.{◌≡◌, ◌++◌, ◌≤◌, ℕ, None, IsTrue, IsFalse, IfOk, OnOk};
 ghost use Rattle.std.specs.Option.{option_map_or};
 ghost use Rattle.box_tree.specs.Containing.{makes_context};
 ghost use Rattle.box_tree.specs.Contents.{tree_of, IsValid};
 ghost use Rattle.box_tree.specs.Edited.{first_fault, edited};
-ghost use Rattle.box_tree.specs.Forest.{ids_in, End};
+ghost use Rattle.box_tree.specs.Forest.{ids_in, roots_of, End};
 ghost use Rattle.box_tree.specs.Planned.{is_among, times_in};
 ghost use Rattle.spaces.specs.Table.{removed_ids, renewed_node, subtree_of};
 ghost use Rattle.stacking.specs.Frame.{KeepsList};
+ghost use Rattle.tree_edits.specs.Changes.{gives_sides, numbers_before, numbers_in};
+ghost use Rattle.tree_edits.specs.Faithful.{is_bare};
 
 use crate::memory::OutOfMemory;
 use box_tree::{Edit, Page};
@@ -16,9 +18,9 @@ use fractions::{Ledger, Steps};
 use stacking::touched;
 use std::alloc::{AllocError, Global};
 
-/// The node that an edit of the page changes, whose subtree is renewed then: the next id for an add, and 0, for the whole
-/// page, where it changes the viewport.
-pub(crate) fn renewed_node(page: &Page, edit: &Edit) -> u32
+// The node that an edit of the page changes, whose subtree is renewed then: the next id for an add, and 0, for the whole
+// page, where it changes the viewport.
+fn renewed_node(page: &Page, edit: &Edit) -> u32
     ensures { result ≡ renewed_node page.now.contents edit.now }
 {
     match edit {
@@ -33,24 +35,104 @@ pub(crate) fn renewed_node(page: &Page, edit: &Edit) -> u32
     }
 }
 
-/// The ids that an edit without a fault takes out of the page, and those of the stacking contexts whose lists it can change, each
-/// once. It takes one step for each that it takes out.
-pub(crate) fn reached_ids<L: Ledger>(
+/// What an edit without a fault reaches, by the page before it.
+#[derive(Drop)]
+pub(crate) struct Reach {
+    /// The node whose subtree it changes, and 0 for the whole page.
+    pub subtree: u32,
+    /// The ids that it takes out.
+    pub removed: Vec<u32>,
+    /// The ids of the stacking contexts whose lists it can change, each once.
+    pub touched: Vec<u32>,
+    /// The numbers of the items of the nodes that it can take items from.
+    pub numbers: Vec<u32>,
+    /// The page has no tree yet.
+    pub was_bare: bool,
+    /// The viewport gets other sides.
+    pub resizes: bool,
+}
+
+/// What an edit without a fault reaches. It takes one step for each id that it takes out, and for each node that it can take
+/// items from.
+pub(crate) fn reach_of<L: Ledger>(
     alloc: Global,
     page: &Page,
     edit: &Edit,
     steps: &mut Steps<L>,
-) -> Result<(Vec<u32>, Vec<u32>), OutOfMemory>
-    requires valid { IsValid page.now.contents }
-    requires faultless { first_fault page.now.contents edit.now ≡ None }
-    ensures removed { IfOk result (λ ids. ids.0.items ≡ removed_ids page.now.contents edit.now) }
-    ensures contexts { IfOk result (λ ids. (id : ℕ) → IsTrue (is_among ids.1.items id) → IsTrue (makes_context page.now.contents id)) }
-    ensures once { IfOk result (λ ids. (id : ℕ) → times_in id ids.1.items ≤ 1) }
-    ensures all { IfOk result (λ ids. (id : ℕ) → IsTrue (makes_context page.now.contents id) → IsFalse (is_among ids.1.items id) → KeepsList page.now.contents (edited page.now.contents edit.now) id) }
+) -> Result<Reach, OutOfMemory>
+    requires { first_fault page.now.contents edit.now ≡ None }
+    ensures subtree { IfOk result (λ reach. reach.subtree ≡ renewed_node page.now.contents edit.now) }
+    ensures removed { IfOk result (λ reach. reach.removed.items ≡ removed_ids page.now.contents edit.now) }
+    ensures contexts { IfOk result (λ reach. (id : ℕ) → IsTrue (is_among reach.touched.items id) → IsTrue (makes_context page.now.contents id)) }
+    ensures once { IfOk result (λ reach. (id : ℕ) → times_in id reach.touched.items ≤ 1) }
+    ensures all { IfOk result (λ reach. (id : ℕ) → IsTrue (makes_context page.now.contents id) → IsFalse (is_among reach.touched.items id) → KeepsList page.now.contents (edited page.now.contents edit.now) id) }
+    ensures numbers { IfOk result (λ reach. reach.numbers.items ≡ numbers_before page.now.contents page.now.items edit.now) }
+    ensures bare { IfOk result (λ reach. reach.was_bare ≡ is_bare (roots_of page.now.contents.tree)) }
+    ensures resizes { IfOk result (λ reach. reach.resizes ≡ gives_sides edit.now) }
 {
+    page.validity();
     let removed = removed_ids(alloc, page, edit, steps)?;
     let touched = touched(alloc, page, edit)?;
-    Ok((removed, touched))
+    let numbers = numbers_before(alloc, page, edit, removed.as_slice(), steps)?;
+    Ok(Reach {
+        subtree: renewed_node(page, edit),
+        removed,
+        touched,
+        numbers,
+        was_bare: page.root().is_none(),
+        resizes: gives_sides(edit),
+    })
+}
+
+// Whether an edit gives the viewport other sides.
+fn gives_sides(edit: &Edit) -> bool
+    ensures { result ≡ gives_sides edit.now }
+{
+    match edit {
+        Edit::Resize { .. } => true,
+        Edit::Add { .. }
+        | Edit::Remove { .. }
+        | Edit::Move { .. }
+        | Edit::Place { .. }
+        | Edit::Restyle { .. }
+        | Edit::Reshape { .. }
+        | Edit::Scroll { .. }
+        | Edit::ScrollView { .. } => false,
+    }
+}
+
+// The numbers of the items of the nodes that an edit of the page can take items from, where the ids that go are known.
+fn numbers_before<L: Ledger>(
+    alloc: Global,
+    page: &Page,
+    edit: &Edit,
+    removed: &[u32],
+    steps: &mut Steps<L>,
+) -> Result<Vec<u32>, OutOfMemory>
+    requires { removed.now ≡ removed_ids page.now.contents edit.now }
+    ensures { IfOk result (λ numbers. numbers.items ≡ numbers_before page.now.contents page.now.items edit.now) }
+{
+    let mut numbers = Vec::new(alloc);
+    push_numbers(page, removed, &mut numbers, steps)?;
+    if let Edit::Place { id, .. } = edit {
+        numbers.extend_from_slice(page.items_of(*id, steps))?;
+    }
+    Ok(numbers)
+}
+
+// Appends the numbers of the items of some nodes.
+fn push_numbers<L: Ledger>(
+    page: &Page,
+    ids: &[u32],
+    numbers: &mut Vec<u32>,
+    steps: &mut Steps<L>,
+) -> Result<(), OutOfMemory>
+    ensures { OnOk result (numbers.new.items ≡ numbers.old.items ++ numbers_in page.now.items ids.now) }
+{
+    for id in ids {
+        numbers.extend_from_slice(page.items_of(*id, steps))?;
+    }
+    Ok(())
 }
 
 // The ids that an edit takes out of the page, in tree order. It takes one step for each.

@@ -1,9 +1,9 @@
-ghost use Rattle.std.specs.Prelude.{◌≡◌, ◌<◌};
+ghost use Rattle.std.specs.Prelude.{◌≡◌, ◌<◌, ◌≤ℤ◌, pos};
 
 use super::*;
 use box_tree::{Kind, Piece, PieceList};
 use computed_style::Style;
-use fractions::{Blank, Brand};
+use fractions::{Blank, Brand, Spot};
 use std::process::Abort;
 use std::test::Fail;
 
@@ -26,6 +26,22 @@ fn first_child(alloc: Global, parent: u32) -> Result<Edit, Fail> {
     })
 }
 
+// The items in the cell of the first level that holds a point on the upper edge of the viewport are the expected ones.
+fn assert_stand<L: Ledger>(
+    rt: &impl Abort,
+    engine: &Engine,
+    x: i64,
+    expected: &[u32],
+    steps: &mut Steps<L>,
+)
+    requires { pos 0 ≤ℤ x }
+{
+    let page = engine.page();
+    page.validity();
+    assert!(rt; x <= page.viewport().w);
+    assert_eq!(rt; engine.grid().visit(x, 0, 0, steps), expected);
+}
+
 fn edit_in_turn<L: Ledger>(rt: &impl Abort, alloc: Global, blank: Blank) -> Result<(), Fail>
     requires name { blank.name ≡ L.name }
     requires parts { blank.parts ≡ L.parts }
@@ -45,11 +61,22 @@ fn edit_in_turn<L: Ledger>(rt: &impl Abort, alloc: Global, blank: Blank) -> Resu
     }
     assert_eq!(rt; engine.page().next_id(), 3);
     assert!(rt; engine.spaces().space_of(2, &mut steps).is_some());
+    assert_stand(rt, &engine, 640, &[0, 1], &mut steps);
     assert_eq!(rt;
         engine.edit(&Edit::Remove { id: 2 }, &mut steps),
         Ok(Done::Done)
     );
     assert!(rt; engine.spaces().space_of(2, &mut steps).is_none());
+    assert_stand(rt, &engine, 640, &[0], &mut steps);
+    let wider = Edit::Resize {
+        w: 4096,
+        h: 480,
+        max: Spot { x: 0, y: 0 },
+    };
+    assert!(rt; wider.in_range());
+    assert_eq!(rt; engine.edit(&wider, &mut steps), Ok(Done::Done));
+    assert_stand(rt, &engine, 4095, &[0], &mut steps);
+    assert_stand(rt, &engine, 4096, &[], &mut steps);
     Ok(())
 }
 
