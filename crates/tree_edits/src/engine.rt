@@ -10,7 +10,6 @@ ghost use Rattle.tree_edits.specs.Edits.{first_fault, fault_of};
 ghost use Rattle.tree_edits.specs.Faithful.{IsForestOf};
 
 use crate::kept::Kept;
-use crate::laws::grid_of_bounds;
 use crate::memory::OutOfMemory;
 use crate::reach::reach_of;
 use box_tree::{Done, Edit, EditFault, Page};
@@ -125,7 +124,6 @@ impl Engine {
     pub fn grid(&self) -> &Grid
         ensures { IsGridOf result.now self.now.contents self.now.items }
     {
-        grid_of_bounds();
         self.kept.item_grid.soundness();
         self.kept.item_grid.grid()
     }

@@ -19,7 +19,6 @@ mod changes;
 mod engine;
 mod item_grid;
 mod kept;
-pub mod laws;
 mod lists;
 mod memory;
 mod reach;
