@@ -5,7 +5,7 @@ ghost use Rattle.box_tree.specs.Edited.{IsInRange, edited, answer_of};
 ghost use Rattle.box_tree.specs.Numbers.{KeepsNumbers, GivesFreshNumbers, HasSameItems};
 ghost use Rattle.spaces.specs.Bound.{is_bounded};
 ghost use Rattle.spaces.specs.Table.{IsTableOf};
-ghost use Rattle.tree_edits.specs.Cells.{IsGridOf};
+ghost use Rattle.tree_edits.specs.Cells.{IsGridOf, AreBoundsOf};
 ghost use Rattle.tree_edits.specs.Edits.{first_fault, fault_of};
 ghost use Rattle.tree_edits.specs.Faithful.{IsForestOf};
 
@@ -13,7 +13,7 @@ use crate::kept::Kept;
 use crate::memory::OutOfMemory;
 use crate::reach::reach_of;
 use box_tree::{Done, Edit, EditFault, Page};
-use fractions::{Ledger, Steps};
+use fractions::{Ledger, Rect, Steps};
 use paint_order::Forest;
 use spaces::{BoundOrMemory, SpaceTable};
 use spatial_index::Grid;
@@ -126,6 +126,14 @@ impl Engine {
     {
         self.kept.item_grid.soundness();
         self.kept.item_grid.grid()
+    }
+
+    /// The bounds in the viewport of each item of the page as it stands, in units, under its number, and four zeros under each
+    /// number that no item has.
+    pub fn bounds(&self) -> &[Rect]
+        ensures { AreBoundsOf result.now self.now.contents self.now.items }
+    {
+        self.kept.item_grid.bounds()
     }
 }
 

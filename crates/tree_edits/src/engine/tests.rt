@@ -42,6 +42,26 @@ fn assert_stand<L: Ledger>(
     assert_eq!(rt; engine.grid().visit(x, 0, 0, steps), expected);
 }
 
+// A wider viewport, whose grid has a second cell in its first row.
+fn resize<L: Ledger>(rt: &impl Abort, engine: &mut Engine, steps: &mut Steps<L>) {
+    let wider = Edit::Resize {
+        w: 4096,
+        h: 480,
+        max: Spot { x: 0, y: 0 },
+    };
+    assert!(rt; wider.in_range());
+    assert_eq!(rt; engine.edit(&wider, steps), Ok(Done::Done));
+    assert_stand(rt, engine, 4095, &[0], steps);
+    assert_stand(rt, engine, 4096, &[], steps);
+    let expected = Rect {
+        l: 0,
+        t: 0,
+        r: 101,
+        b: 101,
+    };
+    assert_eq!(rt; engine.bounds().first(), Some(&expected));
+}
+
 fn edit_in_turn<L: Ledger>(rt: &impl Abort, alloc: Global, blank: Blank) -> Result<(), Fail>
     requires name { blank.name ≡ L.name }
     requires parts { blank.parts ≡ L.parts }
@@ -68,15 +88,7 @@ fn edit_in_turn<L: Ledger>(rt: &impl Abort, alloc: Global, blank: Blank) -> Resu
     );
     assert!(rt; engine.spaces().space_of(2, &mut steps).is_none());
     assert_stand(rt, &engine, 640, &[0], &mut steps);
-    let wider = Edit::Resize {
-        w: 4096,
-        h: 480,
-        max: Spot { x: 0, y: 0 },
-    };
-    assert!(rt; wider.in_range());
-    assert_eq!(rt; engine.edit(&wider, &mut steps), Ok(Done::Done));
-    assert_stand(rt, &engine, 4095, &[0], &mut steps);
-    assert_stand(rt, &engine, 4096, &[], &mut steps);
+    resize(rt, &mut engine, &mut steps);
     Ok(())
 }
 
