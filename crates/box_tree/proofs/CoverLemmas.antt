@@ -1,14 +1,13 @@
 -- The first area of a map that covers a point, found by looking the children of the map up one after another.
-use Rattle.std.proofs.Common.{◌≡◌, ℕ, ◌+◌, ◌<◌, ◌≤◌, ℤ, List, [], ◌∷◌, length, drop, Option, Some, None, Bool, true, false, if◌then◌else◌, refl, sym, ap, ◌∙◌, arith}
+use Rattle.std.proofs.Common.{◌≡◌, ℕ, ◌+◌, ◌<◌, ◌≤◌, ℤ, List, ◌∷◌, length, drop, Some, None, Bool, true, false, if◌then◌else◌, refl, sym, ap, ◌∙◌, arith}
 use Rattle.std.specs.Option.{option_map, option_map_or}
-use Rattle.box_tree.specs.declared.kind.Kind.{Kind}
 use Rattle.box_tree.specs.declared.node.Node.{Node}
-use Rattle.box_tree.specs.Contents.{Contents, node_at, node_of, placed_of, IsValid}
+use Rattle.box_tree.specs.Contents.{Contents, node_at, node_of, IsValid}
 use Rattle.box_tree.specs.Covers.{form_covers, areas_of, first_covering, first_cover, covering_among}
-use Rattle.box_tree.specs.Forest.{Label, Forest, End, Grow, roots_of, Placed}
+use Rattle.box_tree.specs.Forest.{Label, Forest, End, Grow, roots_of}
 use Rattle.box_tree.specs.Suits.{is_map}
 use Rattle.box_tree.proofs.PlacedLemmas.{AreAtPlaces, found-at_places, seen_at}
-use Rattle.box_tree.proofs.ExchangeLemmas.{drop_at, drop_all}
+use Rattle.box_tree.proofs.ExchangeLemmas.{drop_all}
 
 -- a node of the page covers what its form covers
 abbrev covers_so : Contents → (x y : ℤ) → ℕ → Bool

@@ -5,8 +5,7 @@ use Rattle.std.specs.declared.alloc.Global.{Global}
 use Rattle.smallvec.specs.SmallVec.{SmallVec}
 use Rattle.std.proofs.lemmas.Bool.{cases_eq}
 use Rattle.std.proofs.lemmas.Bool.Decides.{nat_tests}
-use Rattle.std.proofs.lemmas.List.{length-set, length-take, length-drop, take_all, drop_all, append-nil, nil_from_length, map_push, get_or-set_same, get_or-set_other, set-set, set-get_or}
-use Rattle.std.proofs.lemmas.List.Sums.{sum_by-cons, sum_by-append}
+use Rattle.std.proofs.lemmas.List.{length-set, length-take, length-drop, take_all, drop_all, append-nil, get_or-set_same, get_or-set_other, set-set, set-get_or}
 use Rattle.box_tree.specs.declared.item.Item.{Item}
 use Rattle.box_tree.specs.declared.items.Earlier.{Earlier}
 use Rattle.box_tree.specs.declared.kind.Kind.{Kind}

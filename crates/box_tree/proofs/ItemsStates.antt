@@ -1,11 +1,8 @@
 -- The numbers of items as they are kept, after each step on them.
-use Rattle.std.proofs.Common.{◌≡◌, ℕ, ◌+◌, ◌-◌, ◌≤◌, List, [], ◌∷◌, ◌++◌, zero, suc, length, take, drop, set, get_or, ap, ◌∙◌, arith}
-use Rattle.std.specs.Prelude.{sum_by, Vec, vec_len, vec_capacity}
-use Rattle.std.specs.declared.alloc.Global.{Global}
-use Rattle.std.proofs.lemmas.List.Sums.{sum_by-cons}
+use Rattle.std.proofs.Common.{◌≡◌, ℕ, ◌+◌, ◌-◌, ◌≤◌, List, [], ◌++◌, length, take, drop, set, get_or, ap, ◌∙◌, arith}
 use Rattle.smallvec.specs.SmallVec.{SmallVec}
 use Rattle.box_tree.specs.declared.item.Item.{Item}
-use Rattle.box_tree.specs.Numbers.{ItemsState, items_state, number_room, numbers_of}
+use Rattle.box_tree.specs.Numbers.{ItemsState, items_state, numbers_of}
 use Rattle.box_tree.specs.Planned.{times_in}
 use Rattle.box_tree.specs.Renumbered.{once_below, with_fewer, with_again}
 use Rattle.box_tree.specs.Sound.{AreSound}

@@ -8,7 +8,7 @@ use Rattle.box_tree.specs.declared.kind.Kind.TheVariants.{Block, Inline, InlineB
 use Rattle.box_tree.specs.declared.node.Node.{Node}
 use Rattle.box_tree.specs.declared.piece.Piece.{Piece}
 use Rattle.box_tree.specs.Forest.{Label, Placed}
-use Rattle.box_tree.specs.Contents.{Contents, node_at, node_of, placed_of, ancestors_of}
+use Rattle.box_tree.specs.Contents.{Contents, node_at, node_of, placed_of}
 use Rattle.box_tree.specs.Edited.{ancestors_below, kind_may_move}
 use Rattle.box_tree.specs.Suits.{is_text, may_hold, has_no_parent, kind_suits, box_count_suits, takes_style, style_suits, node_suits}
 use Rattle.box_tree.specs.SuitsBelow.{kind_suits_below, node_suits_below}

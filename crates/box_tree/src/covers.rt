@@ -26,6 +26,7 @@ impl Page {
         requires y { unsigned_abs y < 2 ^ 123 }
         ensures first { result ≡ first_cover self.now.contents map x y }
         ensures steps { steps.new ≤ steps.old + length (roots_of (areas_of self.now.contents map)) }
+        ensures counts { steps.old ≤ steps.new }
     {
         self.validity();
         let Some(node) = self.find(map) else {
@@ -49,6 +50,7 @@ impl Page {
         requires y { unsigned_abs y < 2 ^ 123 }
         ensures first { result ≡ covering_among self.now.contents x y ids.now }
         ensures steps { steps.new ≤ steps.old + length ids.now }
+        ensures counts { steps.old ≤ steps.new }
     {
         for id in ids {
             steps.tick();

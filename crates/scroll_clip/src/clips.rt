@@ -59,6 +59,7 @@ pub fn inside_clips<L: Ledger>(
     requires y { IsWithin 20 y }
     ensures inside { result ≡ inside_clips page.now.contents id x y }
     ensures cost { steps.new ≤ steps.old + 2 * length (holders_of page.now.contents id) }
+    ensures counts { steps.old ≤ steps.new }
 {
     page.validity();
     let by = page.containing_block(id);
@@ -86,6 +87,7 @@ fn clip_lets_in<L: Ledger>(
     requires y { IsWithin 20 y }
     ensures holds { result ≡ clip_holds clip (local_point_under spaces.now id x y) }
     ensures cost { steps.new ≤ steps.old + 1 }
+    ensures counts { steps.old ≤ steps.new }
 {
     match clip {
         Some(curve) => curve_holds(&curve, spaces.local_point(id, x, y, steps)),
@@ -111,6 +113,7 @@ fn clip_of<L: Ledger>(page: &Page, id: u32, steps: &mut Steps<L>) -> Option<Roun
     ensures clip { result ≡ clip_of page.now.contents id }
     ensures measured { IfSome result (λ curve. IsMeasured curve) }
     ensures cost { steps.new ≤ steps.old + 1 }
+    ensures counts { steps.old ≤ steps.new }
 {
     if page.clips(id) {
         clipping_curve(page.node(id, steps))

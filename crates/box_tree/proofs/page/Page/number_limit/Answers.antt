@@ -1,5 +1,5 @@
 -- A number that an item has was given, and there are fewer numbers than the limit.
-use Rattle.std.proofs.Common.{ℕ, ◌<◌, arith, subst}
+use Rattle.std.proofs.Common.{◌<◌, arith, subst}
 use Rattle.std.proofs.lemmas.Option.{slice_get_within}
 use Rattle.box_tree.specs.Numbers.{IsNumber}
 use Rattle.box_tree.specs.PageState.{PageState}
