@@ -1,5 +1,5 @@
 -- The clips of a node are that of its containing block, where that is a node, and those of that node.
-use Rattle.std.proofs.Common.{◌≡◌, ℕ, suc, ◌∷◌, List, [], Option, Some, None, Bool, true, false, is_some, if◌then◌else◌, refl, sym, ap, subst, ◌∙◌}
+use Rattle.std.proofs.Common.{◌≡◌, ℕ, suc, ◌∷◌, List, [], Option, Some, None, Bool, true, false, is_some, if◌then◌else◌, refl, sym, ap, ◌∙◌}
 use Rattle.std.specs.Prelude.{◌&&◌, ◌||◌, ◌↔◌, ℤ, IsNone, IfSome, nat_lt, length}
 use Rattle.std.specs.List.{list_all}
 use Rattle.std.specs.Option.{option_map_or}
@@ -21,7 +21,7 @@ use Rattle.box_tree.proofs.PlacedLemmas.{seen_at}
 use Rattle.box_tree.proofs.ContainingLemmas.{standing, label-seen, held_by, unheld}
 use Rattle.spaces.specs.Spaces.{local_point}
 use Rattle.spaces.proofs.SuitedLemmas.{suited-seen}
-use Rattle.scroll_clip.specs.Curves.{padding_curve, HasCurvesInRange}
+use Rattle.scroll_clip.specs.Curves.{HasCurvesInRange}
 use Rattle.scroll_clip.specs.Clips.{port_clip, curve_by, clipping_curve, clip_set_by, clip_of, clip_holds, holders_of, lets_in, inside_clips}
 
 -- a node that clips has a box or a viewport, and so a curve

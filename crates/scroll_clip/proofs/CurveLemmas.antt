@@ -13,7 +13,7 @@ use Rattle.box_tree.specs.declared.piece.Piece.{Piece}
 use Rattle.box_tree.specs.Forest.{Label}
 use Rattle.box_tree.specs.Contents.{IsBoxInRange, IsSpanInRange}
 use Rattle.spaces.proofs.WidthLemmas.{side-at, side-fits}
-use Rattle.scroll_clip.specs.Curves.{borders, declared_radii, box_corners, border_curve, padding_curve}
+use Rattle.scroll_clip.specs.Curves.{borders, box_corners, border_curve, padding_curve}
 
 -- a length within a limit is within each greater one
 longer : (small great : ℕ) (x : ℤ) → small ≤ great → IsLengthWithin small x → IsLengthWithin great x

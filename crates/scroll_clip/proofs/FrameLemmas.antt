@@ -1,5 +1,5 @@
 -- The clips of a node that stands outside of an edited one: the ancestors of the node stand outside too, and keep their spaces.
-use Rattle.std.proofs.Common.{◌≡◌, ℕ, List, [], ◌∷◌, Option, Some, None, Bool, true, false, if◌then◌else◌, refl, sym, ap, ◌∙◌, subst}
+use Rattle.std.proofs.Common.{◌≡◌, ℕ, List, [], ◌∷◌, Option, Some, None, Bool, true, false, if◌then◌else◌, refl, sym, ap, ◌∙◌}
 use Rattle.std.specs.Prelude.{ℤ, ◌&&◌}
 use Rattle.std.specs.List.{AllByRecursion, list_all}
 use Rattle.std.specs.Option.{option_map, option_map_or, option_and_then}
@@ -13,7 +13,7 @@ use Rattle.box_tree.specs.Edited.{edited}
 use Rattle.box_tree.specs.Frame.{IsFaultless, IsOutside}
 use Rattle.spaces.specs.Spaces.{fine_point, space}
 use Rattle.box_tree.proofs.RestLemmas.{standing_of}
-use Rattle.spaces.proofs.FrameLemmas.{IsInRest, outside-in_rest}
+use Rattle.spaces.proofs.FrameLemmas.{outside-in_rest}
 use Rattle.scroll_clip.specs.Clips.{clip_set_by, clip_holds, lets_in, inside_clips}
 
 -- two tests, each equal

@@ -1,5 +1,5 @@
 -- Where no partial product passes the bound, and which ancestors show what is in them.
-use Rattle.std.proofs.Common.{◌≡◌, ℕ, List, [], ◌∷◌, Some, Bool, true, false, IsTrue, if◌then◌else◌, refl, ap, ◌∙◌}
+use Rattle.std.proofs.Common.{◌≡◌, ℕ, List, [], ◌∷◌, Some, Bool, true, false, IsTrue, refl, ap, ◌∙◌}
 use Rattle.std.specs.Prelude.{◌&&◌}
 use Rattle.std.proofs.lemmas.Bool.{false≢true}
 use Rattle.std.specs.List.{list_all}
@@ -8,7 +8,7 @@ use Rattle.box_tree.specs.Forest.{Label, Forest, End, Grow, Placed, EachNode}
 use Rattle.box_tree.specs.Contents.{Contents, placed_of, IsValid}
 use Rattle.box_tree.specs.Containing.{Standing}
 use Rattle.box_tree.proofs.MoveLemmas.{each-placed}
-use Rattle.spaces.specs.Spaces.{shows, has_space, space}
+use Rattle.spaces.specs.Spaces.{shows, has_space}
 use Rattle.spaces.specs.Bound.{is_bounded_at, are_bounded, is_bounded}
 
 -- both of two tests that hold together

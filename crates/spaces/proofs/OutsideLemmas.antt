@@ -9,7 +9,7 @@ use Rattle.affine.specs.declared.map.Parts.{Parts}
 use Rattle.box_tree.specs.declared.node.Node.{Node}
 use Rattle.box_tree.specs.Forest.{Label, Forest, End, Grow, roots_of, ids_in, occurrences, Placed, placed_in}
 use Rattle.box_tree.specs.Contents.{Contents, node_of, placed_of, ancestors_of, tree_of, has_id, IsValid, IsGiven}
-use Rattle.box_tree.specs.Containing.{Standing, parent_of, may_hold, outermost, containing_block_chain, standing_at}
+use Rattle.box_tree.specs.Containing.{Standing, parent_of, may_hold, containing_block_chain, standing_at}
 use Rattle.box_tree.specs.Edited.{ancestors_below}
 use Rattle.box_tree.specs.Kept.{label_of}
 use Rattle.box_tree.specs.Planned.{is_among}
@@ -24,9 +24,8 @@ use Rattle.spaces.specs.declared.table.entry.Entry.{Entry}
 use Rattle.spaces.specs.Around.{place_among, written, written_from, AreEntered}
 use Rattle.spaces.specs.Bound.{are_bounded, is_bounded}
 use Rattle.spaces.specs.Checked.{checked_products}
-use Rattle.spaces.specs.Spaces.{is_laid_out, shows, inner_factors, outer_space, space_of, space_along, space}
+use Rattle.spaces.specs.Spaces.{is_laid_out, shows, inner_factors, space_of, space_along, space}
 use Rattle.spaces.specs.Table.{entry_at, entry_placed, entry_of, entry_under, subtree_of, is_in_subtree, new_entry, renewed_entry, FitsIn, is_bounded_from, is_bounded_in}
-use Rattle.spaces.proofs.ValueLemmas.{ancestors_below-absent}
 use Rattle.spaces.proofs.WalkLemmas.{root-there}
 use Rattle.spaces.proofs.WrittenLemmas.{written-once}
 

@@ -1,5 +1,5 @@
 -- The values of a node from those of its parent.
-use Rattle.std.proofs.Common.{◌≡◌, ℕ, List, [], ◌∷◌, map, reverse, Option, Some, None, false, is_some, if◌then◌else◌, refl, sym, ap, ◌∙◌}
+use Rattle.std.proofs.Common.{◌≡◌, ℕ, List, [], ◌∷◌, map, reverse, Option, Some, None, false, is_some, refl, sym, ap, ◌∙◌}
 use Rattle.std.specs.Prelude.{fold, unwrap_or, ℤ, IfSome}
 use Rattle.std.specs.Option.{option_map_or}
 use Rattle.std.proofs.lemmas.List.{reverse-append}
@@ -13,7 +13,7 @@ use Rattle.box_tree.specs.Forest.{Label, Placed}
 use Rattle.box_tree.specs.Contents.{Contents, node_of, placed_of, has_id, IsValid}
 use Rattle.box_tree.specs.Edited.{ancestors_below}
 use Rattle.box_tree.proofs.ContainingLemmas.{standing, label-seen, ancestors-seen, above-seen}
-use Rattle.spaces.specs.Values.{values_along, values}
+use Rattle.spaces.specs.Values.{values_along}
 
 -- one node more, below the others
 pub values_along-cons : (n : Label) (above : List Label) → values_along (n ∷ above) ≡ computed (values_along above) n.style

@@ -1,18 +1,16 @@
 -- The viewports of svgs: the numbers of padding boxes, and the factor of a viewBox as its viewport answers it.
-use Rattle.std.proofs.Common.{◌≡◌, ◌^◌, List, [], ◌∷◌, Option, Some, None, Bool, true, false, not, if◌then◌else◌, ℤ, pos, ◌-ℤ◌, ◌*ℤ◌, FitsSigned, to_z, of_z, refl, sym, subst, ap, ◌∙◌, arith}
+use Rattle.std.proofs.Common.{◌≡◌, List, [], ◌∷◌, Option, Some, Bool, true, false, not, if◌then◌else◌, ℤ, pos, ◌-ℤ◌, FitsSigned, to_z, of_z, sym, subst, ap, ◌∙◌, arith}
 use Rattle.std.specs.Prelude.{◌&&◌}
 use Rattle.std.specs.Int.{int_max, w64}
 use Rattle.std.proofs.lemmas.Int.{ints, int_max_is, to_z-of_z}
 use Rattle.affine.specs.declared.map.Parts.{Parts}
-use Rattle.affine.specs.Map.{IsWithinBound}
 use Rattle.computed_style.specs.Ranges.{IsSide}
 use Rattle.view_boxes.specs.declared.view_map.ViewMap.{ViewMap}
 use Rattle.view_boxes.specs.declared.view_map.ViewMap.TheVariants.{Given, Disabled, Beyond}
-use Rattle.view_boxes.specs.Views.{is_disabled, equivalent_transform, says_disabled}
+use Rattle.view_boxes.specs.Views.{is_disabled, equivalent_transform}
 use Rattle.box_tree.specs.Forest.{Label}
 use Rattle.box_tree.specs.Used.{makes_viewport}
-use Rattle.spaces.specs.Spaces.{padding_side, port_of, viewport_width, viewport_height, disables, view_factor}
-use Rattle.spaces.specs.Bound.{is_within_bound}
+use Rattle.spaces.specs.Spaces.{padding_side, port_of, viewport_width, viewport_height, view_factor}
 use Rattle.spaces.specs.Checked.{IsViewOf, after_view, then_product, checked_products}
 use Rattle.spaces.proofs.BoundLemmas.{test-beyond}
 use Rattle.spaces.proofs.ProductLemmas.{then-beyond}

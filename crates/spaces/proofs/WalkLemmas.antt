@@ -1,6 +1,6 @@
 -- The walk over a node and those below it.
-use Rattle.std.proofs.Common.{◌≡◌, ℕ, ◌+◌, ◌<◌, ◌≤◌, [], ◌∷◌, length, Option, Some, None, Bool, true, false, is_some, IsTrue, refl, sym, ap, ◌∙◌, arith}
-use Rattle.std.specs.Prelude.{◌&&◌, if◌then◌else◌}
+use Rattle.std.proofs.Common.{◌≡◌, ℕ, ◌≤◌, [], ◌∷◌, length, Option, Some, None, Bool, true, false, is_some, IsTrue, refl, sym, ap, ◌∙◌, arith}
+use Rattle.std.specs.Prelude.{◌&&◌}
 use Rattle.std.specs.Option.{option_map_or}
 use Rattle.box_tree.specs.Forest.{Forest, End, Grow, roots_of, Placed, placed_in}
 use Rattle.box_tree.specs.Contents.{Contents, placed_of, has_id, ancestor_count, IsValid}

@@ -1,5 +1,5 @@
 -- Products that are none once one of them passes the bound.
-use Rattle.std.specs.Prelude.{◌≡◌, false, List, [], ◌∷◌, true, ◌&&◌, fold, Option, Some, None, if◌then◌else◌}
+use Rattle.std.specs.Prelude.{◌≡◌, false, List, true, fold, Option, Some, None, if◌then◌else◌}
 use Rattle.std.specs.Option.{option_and_then}
 use Rattle.affine.specs.declared.map.Parts.{Parts}
 use Rattle.affine.specs.Map.{product}

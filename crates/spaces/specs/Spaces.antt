@@ -19,7 +19,7 @@ use Rattle.box_tree.specs.declared.piece.Piece.{Piece}
 use Rattle.box_tree.specs.declared.viewport.Viewport.{Viewport}
 use Rattle.box_tree.specs.declared.containing.Holder.{Holder}
 use Rattle.box_tree.specs.declared.containing.Holder.TheVariants.{Node as HolderNode, Initial, Viewport as HolderViewport}
-use Rattle.box_tree.specs.Forest.{Label, Placed}
+use Rattle.box_tree.specs.Forest.{Label}
 use Rattle.box_tree.specs.Contents.{Contents, placed_of}
 use Rattle.box_tree.specs.Suits.{is_svg_content}
 use Rattle.box_tree.specs.Used.{has_acting_transform, is_clipping, is_block_container, makes_viewport}

@@ -1,10 +1,8 @@
 -- A factor is within the bound, being a map, and the product is there exactly where it is too.
-use Rattle.std.proofs.Common.{◌≡◌, Option, Some, None, Bool, true, if◌then◌else◌, sym, ap, ◌∙◌}
-use Rattle.std.specs.Option.{option_and_then}
-use Rattle.affine.specs.declared.map.Parts.{Parts}
+use Rattle.std.proofs.Common.{◌≡◌, Some, None, true, sym, ap, ◌∙◌}
 use Rattle.affine.specs.Map.{product}
 use Rattle.spaces.specs.Bound.{is_within_bound}
-use Rattle.spaces.specs.Checked.{if_within, then_product}
+use Rattle.spaces.specs.Checked.{then_product}
 use Rattle.spaces.proofs.BoundLemmas.{test-from, within-or_none}
 use Rattle.spaces.proofs.ProductLemmas.{then-within}
 use Rattle.spaces.proofs.checked.product.Goals as goal

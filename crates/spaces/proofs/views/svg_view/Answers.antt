@@ -1,8 +1,7 @@
 -- The viewport of an svg is its padding box.
-use Rattle.std.proofs.Common.{◌≡◌, ℤ, if◌then◌else◌, sym, ap, subst, ◌∙◌}
+use Rattle.std.proofs.Common.{◌≡◌, if◌then◌else◌, sym, ap, subst, ◌∙◌}
 use Rattle.view_boxes.specs.declared.port.Port.{Port}
 use Rattle.view_boxes.specs.Views.{IsViewMap}
-use Rattle.box_tree.specs.declared.kind.Kind.{Kind}
 use Rattle.box_tree.specs.declared.piece.Piece.{Piece}
 use Rattle.box_tree.specs.Suits.{is_svg_content}
 use Rattle.box_tree.specs.Kept.{label_of}
