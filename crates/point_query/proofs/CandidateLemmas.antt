@@ -15,6 +15,8 @@ use Rattle.box_tree.specs.Forest.{Label, Forest, End, Grow, Placed}
 use Rattle.box_tree.specs.Contents.{Contents, node_at, placed_of, IsValid, IsGiven}
 use Rattle.box_tree.specs.Items.{items_at, node_items, item_count}
 use Rattle.box_tree.specs.Numbers.{ItemsState, numbers_of, Names, IsNumber, IsItem, IsNumberedPage, place_of}
+use Rattle.box_tree.specs.Planned.{times_in}
+use Rattle.box_tree.proofs.CountLemmas.{times_in-append}
 use Rattle.box_tree.proofs.MoveLemmas.{each-placed}
 use Rattle.box_tree.proofs.NumberedPages.{are_placed}
 use Rattle.box_tree.proofs.PlacedLemmas.{id-placed_in}
@@ -24,7 +26,7 @@ use Rattle.stacking.specs.Painting.{own, drawn}
 use Rattle.stacking.specs.Counting.{count, items_in, root_layer}
 use Rattle.stacking.specs.Lists.{number_of}
 use Rattle.stacking.proofs.CountLemmas.{all_items_are_painted}
-use Rattle.point_query.specs.Topmost.{times, StandOnce}
+use Rattle.point_query.specs.Topmost.{StandOnce}
 use Rattle.point_query.proofs.TopmostLemmas.{once-tail, once-head}
 use Rattle.point_query.proofs.OrderLemmas.{member-at, member-filter}
 use Rattle.point_query.proofs.LayerLemmas.{times-nowhere, number-in_layer}
@@ -44,10 +46,6 @@ member-cases x (y ∷ xs) ys = by_test (y == x) (member-cases x xs ys)
     by_test true rest = refl
     by_test false rest = rest
 
-pub times-append : (x : ℕ) (xs ys : List ℕ) → times x (xs ++ ys) ≡ times x xs + times x ys
-times-append x [] ys = omega arith
-times-append x (y ∷ xs) ys = omega (arith, times-append x xs ys)
-
 -- where a number is a member it stands at a place
 member-place : (x : ℕ) (xs : List ℕ) → is_member x xs ≡ true → (k : ℕ) × (k < length xs) × (get_or xs k 0 ≡ x)
 member-place x [] there = absurd (false≢true there)
@@ -62,10 +60,10 @@ once-apart : (xs : List ℕ) → ((j k : ℕ) → j < length xs → k < length x
 once-apart [] apart n = omega arith
 once-apart (x ∷ xs) apart n = by_test (x == n) refl (once-apart xs (λ j k below below' same. let next : suc j ≡ suc k = apart (suc j) (suc k) (omega arith) (omega arith) same in omega (arith, next)) n)
   where
-    by_test : (b : Bool) → (x == n) ≡ b → times n xs ≤ 1 → (if b then 1 else 0) + times n xs ≤ 1
+    by_test : (b : Bool) → (x == n) ≡ b → times_in n xs ≤ 1 → (if b then 1 else 0) + times_in n xs ≤ 1
     by_test true is rest = by_member (is_member n xs) refl
       where
-        by_member : (t : Bool) → is_member n xs ≡ t → 1 + times n xs ≤ 1
+        by_member : (t : Bool) → is_member n xs ≡ t → 1 + times_in n xs ≤ 1
         by_member true there =
             let found = member-place n xs there in
             let here : x ≡ n = grind (arith, nat_tests) in
@@ -169,10 +167,10 @@ module _ (page : Contents) (valid : IsValid page) (s : ItemsState) (are : IsNumb
   below-once zero n = omega arith
   below-once (suc id) n = by_tests (is_member n (numbers_below s id)) (is_member n (numbers_of s id)) refl refl (below-once id n)
     where
-      sums : times n (numbers_below s id ++ numbers_of s id) ≡ times n (numbers_below s id) + times n (numbers_of s id)
-      sums = times-append n (numbers_below s id) (numbers_of s id)
+      sums : times_in n (numbers_below s id ++ numbers_of s id) ≡ times_in n (numbers_below s id) + times_in n (numbers_of s id)
+      sums = times_in-append n (numbers_below s id) (numbers_of s id)
 
-      by_tests : (a b : Bool) → is_member n (numbers_below s id) ≡ a → is_member n (numbers_of s id) ≡ b → times n (numbers_below s id) ≤ 1 → times n (numbers_below s id ++ numbers_of s id) ≤ 1
+      by_tests : (a b : Bool) → is_member n (numbers_below s id) ≡ a → is_member n (numbers_of s id) ≡ b → times_in n (numbers_below s id) ≤ 1 → times_in n (numbers_below s id ++ numbers_of s id) ≤ 1
       by_tests true true is is' rest =
           let found = below-number id n is in
           let found' = node-number id n is' in
@@ -222,7 +220,7 @@ module _ (page : Contents) (valid : IsValid page) (s : ItemsState) (are : IsNumb
 
 -- ---- numbers that are put in another order
 
-times-sum : (n : ℕ) (xs : List ℕ) → times n xs ≡ sum_by (λ x. if x == n then 1 else 0) xs
+times-sum : (n : ℕ) (xs : List ℕ) → times_in n xs ≡ sum_by (λ x. if x == n then 1 else 0) xs
 times-sum n [] = refl
 times-sum n (x ∷ xs) = ap (λ k. (if x == n then 1 else 0) + k) (times-sum n xs) ∙ sym (sum_by-cons (λ y. if y == n then 1 else 0) x xs)
 

@@ -1,6 +1,6 @@
 -- The members of the cells of a point, level by level, are the numbers of the items near the point.
-use Rattle.std.proofs.Common.{◌≡◌, ◌≢◌, ℕ, zero, suc, ◌+◌, ◌<◌, ◌≤◌, ◌==◌, nat_lt, eqb, List, [], ◌∷◌, ◌++◌, length, map, get_or, inl, inr, Option, Some, None, Bool, true, false, cond, if◌then◌else◌, refl, sym, ap, subst, ◌∙◌, ℤ, pos, ◌≤ℤ◌, arith}
-use Rattle.std.specs.Prelude.{◌⊎◌, ◌||◌, slice_get, IsTrue, All}
+use Rattle.std.proofs.Common.{◌≡◌, ℕ, zero, suc, ◌+◌, ◌<◌, ◌≤◌, ◌==◌, nat_lt, List, [], ◌∷◌, ◌++◌, length, map, inl, inr, Option, Some, None, Bool, true, false, cond, if◌then◌else◌, refl, sym, ap, subst, ◌∙◌, ℤ, arith}
+use Rattle.std.specs.Prelude.{◌⊎◌, ◌||◌, slice_get}
 use Rattle.std.specs.List.{filter, AllByRecursion}
 use Rattle.std.specs.List.Sorted.{IsPermutation}
 use Rattle.std.proofs.lemmas.Bool.{false≢true, cases_lt}
@@ -18,6 +18,8 @@ use Rattle.box_tree.specs.declared.item.Item.{Item}
 use Rattle.box_tree.specs.Contents.{Contents, IsValid}
 use Rattle.box_tree.specs.Items.{item_count}
 use Rattle.box_tree.specs.Numbers.{ItemsState, numbers_of, place_of, Names, IsItem, IsNumber, IsNumberedPage}
+use Rattle.box_tree.specs.Planned.{times_in}
+use Rattle.box_tree.proofs.CountLemmas.{times_in-append}
 use Rattle.box_tree.proofs.PlacedLemmas.{page-at_places}
 use Rattle.paint_order.specs.Order.{is_member}
 use Rattle.stacking.specs.Counting.{count, items_in, root_layer, is_item}
@@ -29,15 +31,14 @@ use Rattle.tree_edits.specs.Bounds.{view_bounds}
 use Rattle.tree_edits.specs.Cells.{IsGridOf, region_of}
 use Rattle.point_query.specs.Elements.{is_inside}
 use Rattle.point_query.specs.Near.{meets_cell_at, near_items, members_below}
-use Rattle.point_query.specs.Topmost.{times, StandOnce}
+use Rattle.point_query.specs.Topmost.{StandOnce}
 use Rattle.point_query.proofs.TopmostLemmas.{times-member}
-use Rattle.point_query.proofs.OrderLemmas.{member-at}
-use Rattle.point_query.proofs.LayerLemmas.{counted-each, trees-items, painted-item, member-map, map-member, times-nowhere, number-names, times-number, number-in_layer}
-use Rattle.point_query.proofs.CandidateLemmas.{times-append, once-fewer, counted-all, trees-count}
+use Rattle.point_query.proofs.LayerLemmas.{counted-each, trees-items, painted-item, member-map, times-nowhere, number-names, times-number, number-in_layer}
+use Rattle.point_query.proofs.CandidateLemmas.{once-fewer, counted-all, trees-count}
 
 -- ---- how often numbers stand
 
-stands-times : (n : ℕ) (xs : List ℕ) → times n xs ≡ stands n xs
+stands-times : (n : ℕ) (xs : List ℕ) → times_in n xs ≡ stands n xs
 unfolding stands
 stands-times n [] = refl
 stands-times n (x ∷ xs) = ap (λ k. (if x == n then 1 else 0) + k) (stands-times n xs) ∙ sym (sum_by-cons (λ other. if other == n then 1 else 0) x xs)
@@ -51,10 +52,10 @@ member-split x (y ∷ ys) there = by_test (y == x) refl there (member-split x ys
     by_test true is some rest = let same : y ≡ x = grind (arith, nat_tests) in ([], ys, ap (λ (n : ℕ). n ∷ ys) same)
     by_test false is some rest = let found = rest some in (y ∷ found.0, found.1, ap (λ (ns : List ℕ). y ∷ ns) found.2)
 
-times-itself : (x : ℕ) (xs : List ℕ) → times x (x ∷ xs) ≡ 1 + times x xs
-times-itself x xs = let same : (x == x) ≡ true = grind (arith, nat_tests) in ap (λ (b : Bool). (if b then 1 else 0) + times x xs) same
+times-itself : (x : ℕ) (xs : List ℕ) → times_in x (x ∷ xs) ≡ 1 + times_in x xs
+times-itself x xs = let same : (x == x) ≡ true = grind (arith, nat_tests) in ap (λ (b : Bool). (if b then 1 else 0) + times_in x xs) same
 
-member-times : (x : ℕ) (xs : List ℕ) → 1 ≤ times x xs → is_member x xs ≡ true
+member-times : (x : ℕ) (xs : List ℕ) → 1 ≤ times_in x xs → is_member x xs ≡ true
 member-times x xs some = by_test (is_member x xs) refl
   where
     by_test : (b : Bool) → is_member x xs ≡ b → b ≡ true
@@ -62,12 +63,12 @@ member-times x xs some = by_test (is_member x xs) refl
     by_test false is = absurd (omega (arith, some, times-nowhere x xs is))
 
 -- lists in which each number stands as often are the same but for their order
-permutation-times : (xs ys : List ℕ) → ((n : ℕ) → times n xs ≡ times n ys) → IsPermutation xs ys
+permutation-times : (xs ys : List ℕ) → ((n : ℕ) → times_in n xs ≡ times_in n ys) → IsPermutation xs ys
 permutation-times [] [] same = IsPermutation-refl []
 permutation-times [] (y ∷ ys) same = absurd (omega (arith, same y, times-itself y ys))
 permutation-times (x ∷ xs) ys same =
     let split = member-split x ys (member-times x ys (omega (arith, same x, times-itself x xs))) in
-    let rest : IsPermutation xs (split.0 ++ split.1) = permutation-times xs (split.0 ++ split.1) (λ n. omega (arith, same n, ap (times n) split.2, times-append n split.0 (x ∷ split.1), times-append n split.0 split.1)) in
+    let rest : IsPermutation xs (split.0 ++ split.1) = permutation-times xs (split.0 ++ split.1) (λ n. omega (arith, same n, ap (times_in n) split.2, times_in-append n split.0 (x ∷ split.1), times_in-append n split.0 split.1)) in
     subst (λ (zs : List ℕ). IsPermutation (x ∷ xs) zs) (sym split.2)
     (IsPermutation-trans (x ∷ xs) (x ∷ (split.0 ++ split.1)) (split.0 ++ x ∷ split.1) (IsPermutation-cons x xs (split.0 ++ split.1) rest)
     (IsPermutation-sym (split.0 ++ x ∷ split.1) (x ∷ (split.0 ++ split.1)) (IsPermutation-middle split.0 x split.1)))
@@ -139,13 +140,13 @@ module _ (page : Contents) (s : ItemsState) (grid : GridState) (of_page : IsGrid
       (IsCell-point (region_of page.viewport) level x y within (grind (arith, ints)) (grind (arith, ints)) (grind (arith, ints)) (grind (arith, ints)))
 
   -- how often a number stands in one level more
-  times-level : (n level : ℕ) → times n (members_below grid x y (suc level)) ≡ times n (members_below grid x y level) + stands n (cell_at grid level (line_of level x) (line_of level y)).items
+  times-level : (n level : ℕ) → times_in n (members_below grid x y (suc level)) ≡ times_in n (members_below grid x y level) + stands n (cell_at grid level (line_of level x) (line_of level y)).items
   times-level n level =
       let cell = (cell_at grid level (line_of level x) (line_of level y)).items in
-      omega (arith, times-append n (members_below grid x y level) cell, stands-times n cell)
+      omega (arith, times_in-append n (members_below grid x y level) cell, stands-times n cell)
 
   -- what is no item's number stands in none
-  times-no_number : (n : ℕ) → (IsNumber s n → ⊥) → (level : ℕ) → level ≤ 10 → times n (members_below grid x y level) ≡ 0
+  times-no_number : (n : ℕ) → (IsNumber s n → ⊥) → (level : ℕ) → level ≤ 10 → times_in n (members_below grid x y level) ≡ 0
   times-no_number n none zero within = refl
   times-no_number n none (suc level) within = omega (arith, times-level n level, times-no_number n none level (omega arith), of_page.no_other n none level (line_of level x) (line_of level y) (cell-inside level (omega arith)))
 
@@ -157,14 +158,14 @@ module _ (page : Contents) (s : ItemsState) (grid : GridState) (of_page : IsGrid
     stands-level level within = of_page.stands n item names level (line_of level x) (line_of level y) (cell-inside level within)
 
     -- it stands in no level below that of its bounds
-    times-below : (level : ℕ) → level ≤ 10 → level ≤ level_of bounds → times n (members_below grid x y level) ≡ 0
+    times-below : (level : ℕ) → level ≤ 10 → level ≤ level_of bounds → times_in n (members_below grid x y level) ≡ 0
     times-below zero within below = refl
     times-below (suc level) within below =
         let off : is_met bounds level (line_of level x) (line_of level y) ≡ false = is_met-elsewhere bounds level (line_of level x) (line_of level y) (λ same. absurd (omega (arith, below, same))) in
         omega (arith, times-level n level, times-below level (omega arith) (omega (arith, below)), stands-level level (omega arith), ap once_if off)
 
     -- and once from there on, where the bounds meet the cell of the point
-    times-above : (level : ℕ) → level ≤ 10 → level_of bounds < level → times n (members_below grid x y level) ≡ once_if (meets_cell_at bounds x y)
+    times-above : (level : ℕ) → level ≤ 10 → level_of bounds < level → times_in n (members_below grid x y level) ≡ once_if (meets_cell_at bounds x y)
     times-above zero within above = absurd (omega arith)
     times-above (suc level) within above = elim (cases_lt (level_of bounds) level) [
       | inl less ↦
@@ -175,7 +176,7 @@ module _ (page : Contents) (s : ItemsState) (grid : GridState) (of_page : IsGrid
           omega (arith, times-level n level, times-below level (omega arith) (omega (arith, here)), stands-level level (omega arith), ap {B = ℕ} (λ (l : ℕ). once_if (is_met bounds l (line_of l x) (line_of l y))) here)
     ]
 
-    pub times-members : times n (members_below grid x y 10) ≡ once_if (meets_cell_at bounds x y)
+    pub times-members : times_in n (members_below grid x y 10) ≡ once_if (meets_cell_at bounds x y)
     times-members = times-above 10 (omega arith) (omega (arith, level-at_most bounds))
 
   -- each of them is the number of an item, and stands there once
@@ -228,21 +229,21 @@ module _ (page : Contents) (s : ItemsState) (grid : GridState) (of_page : IsGrid
     pub near-members : IsPermutation (map (number_of s) (near_items page x y)) (members_below grid x y 10)
     near-members = permutation-times (map (number_of s) (near_items page x y)) (members_below grid x y 10) alike
       where
-        none-near : (n : ℕ) → (IsNumber s n → ⊥) → times n (map (number_of s) (near_items page x y)) ≡ 0
+        none-near : (n : ℕ) → (IsNumber s n → ⊥) → times_in n (map (number_of s) (near_items page x y)) ≡ 0
         none-near n none = by_test (is_member n (map (number_of s) (near_items page x y))) refl
           where
-            by_test : (b : Bool) → is_member n (map (number_of s) (near_items page x y)) ≡ b → times n (map (number_of s) (near_items page x y)) ≡ 0
+            by_test : (b : Bool) → is_member n (map (number_of s) (near_items page x y)) ≡ b → times_in n (map (number_of s) (near_items page x y)) ≡ 0
             by_test true there =
                 let found = member-map (number_of s) n (near_items page x y) there in
                 let is = counted-each (IsItem page) (near_items page x y) near-are_items found.0 found.1 in
                 absurd (none (found.0, subst (λ (k : ℕ). Names s k found.0) found.2 (number-names page valid s are found.0 is)))
             by_test false nowhere = times-nowhere n (map (number_of s) (near_items page x y)) nowhere
 
-        alike : (n : ℕ) → times n (map (number_of s) (near_items page x y)) ≡ times n (members_below grid x y 10)
+        alike : (n : ℕ) → times_in n (map (number_of s) (near_items page x y)) ≡ times_in n (members_below grid x y 10)
         alike n = elim (number-or_not s n) [
           | inl is ↦
               let item_is = are.only n is.0 is.1 in
-              ap (λ (k : ℕ). times k (map (number_of s) (near_items page x y))) (sym is.1.number_is)
+              ap (λ (k : ℕ). times_in k (map (number_of s) (near_items page x y))) (sym is.1.number_is)
               ∙ times-number page valid s are is.0 item_is (near_items page x y) near-are_items
               ∙ near-count is.0 item_is
               ∙ sym (times-members n is.0 is.1)

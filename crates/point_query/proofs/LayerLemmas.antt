@@ -10,8 +10,6 @@ use Rattle.std.proofs.lemmas.List.{reverse-append, map-append, get_or_default}
 use Rattle.std.proofs.lemmas.List.Elements.{recursion_from_All}
 use Rattle.std.proofs.lemmas.Option.{get_or_from_slice_get}
 use Rattle.box_tree.specs.declared.item.Item.{Item}
-use Rattle.box_tree.specs.declared.item.Part.{Part}
-use Rattle.box_tree.specs.declared.item.Part.TheVariants.{Box, Content, Outline}
 use Rattle.box_tree.specs.Forest.{Label, Forest, End, Grow, Placed, roots_of, placed_in}
 use Rattle.box_tree.specs.Contents.{Contents, node_at, placed_of, IsValid}
 use Rattle.box_tree.specs.Containing.{makes_context, parent_of}
@@ -19,6 +17,7 @@ use Rattle.box_tree.specs.Used.{is_real_context}
 use Rattle.box_tree.specs.Edited.{is_root}
 use Rattle.box_tree.specs.Items.{items_of, items_at, node_items}
 use Rattle.box_tree.specs.Numbers.{ItemsState, Names, IsItem, IsNumber, IsNumberedPage}
+use Rattle.box_tree.specs.Planned.{times_in}
 use Rattle.box_tree.proofs.ForestLemmas.{placed_in-head}
 use Rattle.box_tree.proofs.NumberedPages.{are_placed}
 use Rattle.box_tree.proofs.PlacedLemmas.{AreAtPlaces, page-at_places}
@@ -28,7 +27,7 @@ use Rattle.paint_order.proofs.FlatLemmas.{or_first, or_second}
 use Rattle.tree_edits.specs.Faithful.{root_number, is_bare, IsForestOf}
 use Rattle.stacking.specs.Painting.{own, drawn, layer}
 use Rattle.stacking.specs.OnPage.{of_node}
-use Rattle.stacking.specs.Counting.{count, items_in, root_layer, is_part, is_item}
+use Rattle.stacking.specs.Counting.{count, items_in, root_layer, is_item}
 use Rattle.stacking.specs.Lists.{number_of, kept_list, AreListsOf}
 use Rattle.stacking.proofs.CountLemmas.{count-append, all_items_are_painted}
 use Rattle.stacking.proofs.OnceLemmas as once
@@ -37,7 +36,7 @@ use Rattle.stacking.proofs.NestLemmas.{lists-nest, lists-flatten}
 use Rattle.stacking.proofs.EntryLemmas.{part_itself}
 use Rattle.stacking.proofs.WholeLemmas.{lists-whole, item_true}
 use Rattle.point_query.specs.Elements.{admits, element_of, elements_of}
-use Rattle.point_query.specs.Topmost.{times, lies_above, StandOnce, painted, IsPainted, IsOrdered, item_named, items_named}
+use Rattle.point_query.specs.Topmost.{lies_above, StandOnce, painted, IsOrdered, item_named, items_named}
 use Rattle.point_query.proofs.OrderLemmas.{passed-topmost_first}
 
 -- ---- items that are counted among others
@@ -151,11 +150,11 @@ map-member f item (other ∷ items) some = by_test (map-member f item items) (is
     by_test rest false is = or_second (f other == f item) (is_member (f item) (map f items)) (rest (omega (arith, some, (ap {B = ℕ} (λ b. if b then 1 else 0) is))))
 
 -- a number that stands nowhere stands there no times
-pub times-nowhere : (n : ℕ) (xs : List ℕ) → is_member n xs ≡ false → times n xs ≡ 0
+pub times-nowhere : (n : ℕ) (xs : List ℕ) → is_member n xs ≡ false → times_in n xs ≡ 0
 times-nowhere n [] none = refl
 times-nowhere n (x ∷ xs) none = by_test (x == n) none (times-nowhere n xs)
   where
-    by_test : (b : Bool) → (b || is_member n xs) ≡ false → (is_member n xs ≡ false → times n xs ≡ 0) → (if b then 1 else 0) + times n xs ≡ 0
+    by_test : (b : Bool) → (b || is_member n xs) ≡ false → (is_member n xs ≡ false → times_in n xs ≡ 0) → (if b then 1 else 0) + times_in n xs ≡ 0
     by_test true is rest = absurd (false≢true (sym is))
     by_test false is rest = omega (arith, rest is)
 
@@ -167,9 +166,9 @@ module _ (page : Contents) (valid : IsValid page) (s : ItemsState) (are : IsNumb
   same-number : (item other : Item) → IsItem page item → IsItem page other → number_of s other ≡ number_of s item → other ≡ item
   same-number item other is is' same = are.one_item (number_of s item) other item (subst (λ (n : ℕ). Names s n other) same (number-names other is')) (number-names item is)
 
-  pub times-number : (item : Item) → IsItem page item → (items : List Item) → AllByRecursion (IsItem page) items → times (number_of s item) (map (number_of s) items) ≡ count (is_item item) items
+  pub times-number : (item : Item) → IsItem page item → (items : List Item) → AllByRecursion (IsItem page) items → times_in (number_of s item) (map (number_of s) items) ≡ count (is_item item) items
   times-number item is [] all = refl
-  times-number item is (other ∷ items) all = ap (λ (b : Bool). (if b then 1 else 0) + times (number_of s item) (map (number_of s) items)) (alike (number_of s other == number_of s item) (is_item item other) refl refl) ∙ ap (λ k. (if is_item item other then 1 else 0) + k) (times-number item is items all.1)
+  times-number item is (other ∷ items) all = ap (λ (b : Bool). (if b then 1 else 0) + times_in (number_of s item) (map (number_of s) items)) (alike (number_of s other == number_of s item) (is_item item other) refl refl) ∙ ap (λ k. (if is_item item other then 1 else 0) + k) (times-number item is items all.1)
     where
       alike : (a b : Bool) → (number_of s other == number_of s item) ≡ a → is_item item other ≡ b → (number_of s other == number_of s item) ≡ is_item item other
       alike true true t t' = t ∙ sym t'
@@ -189,11 +188,11 @@ module _ (page : Contents) (valid : IsValid page) (s : ItemsState) (are : IsNumb
   numbers-once : StandOnce (map (number_of s) (root_layer page.tree))
   numbers-once n = by_test (is_member n (map (number_of s) (root_layer page.tree))) refl
     where
-      by_test : (b : Bool) → is_member n (map (number_of s) (root_layer page.tree)) ≡ b → times n (map (number_of s) (root_layer page.tree)) ≤ 1
+      by_test : (b : Bool) → is_member n (map (number_of s) (root_layer page.tree)) ≡ b → times_in n (map (number_of s) (root_layer page.tree)) ≤ 1
       by_test true is =
           let found = member-map (number_of s) n (root_layer page.tree) is in
           let counted = times-number found.0 (layer-item found.0 found.1) (root_layer page.tree) (layer-items page valid) in
-          omega (arith, once.each_item_is_painted_once page valid found.0, counted, ap (λ (k : ℕ). times k (map (number_of s) (root_layer page.tree))) found.2)
+          omega (arith, once.each_item_is_painted_once page valid found.0, counted, ap (λ (k : ℕ). times_in k (map (number_of s) (root_layer page.tree))) found.2)
       by_test false is = omega (arith, times-nowhere n (map (number_of s) (root_layer page.tree)) is)
 
   -- a number in the layer is that of an item, and each number of an item is there
@@ -266,10 +265,6 @@ module _ (page : Contents) (valid : IsValid page) (s : ItemsState) (are : IsNumb
     shallow = lists-nest page valid s forest.lists lists-are;
     once = subst StandOnce (sym painted-is) (numbers-once page valid s are);
   }
-
-  -- an item is painted where it has a number
-  pub number-painted : (n : ℕ) → IsNumber s n → IsPainted forest n
-  number-painted n is = subst (λ (ns : List ℕ). is_member n ns ≡ true) (sym painted-is) (number-in_layer page valid s are n is)
 
   -- numbers that are ordered by the forest, each once, and among them those of all items that are admitted at a point, give
   -- the elements of the layer of the root from top to bottom

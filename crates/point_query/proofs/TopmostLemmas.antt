@@ -5,8 +5,9 @@ use Rattle.std.specs.Cmp.{IsStrictWeakOrder}
 use Rattle.std.proofs.lemmas.Bool.{false≢true, lt-ltb, le-ltb}
 use Rattle.std.proofs.lemmas.Bool.Decides.{nat_tests}
 use Rattle.std.proofs.lemmas.List.MinMax.{IsStrictWeakOrder-by_number, IsStrictWeakOrder-flip}
+use Rattle.box_tree.specs.Planned.{times_in}
 use Rattle.paint_order.specs.Order.{is_member, is_earlier}
-use Rattle.point_query.specs.Topmost.{place_in, lies_above, times, StandOnce}
+use Rattle.point_query.specs.Topmost.{place_in, lies_above, StandOnce}
 
 pub above-order : (xs : List ℕ) → IsStrictWeakOrder (lies_above xs)
 above-order xs = IsStrictWeakOrder-flip _ (IsStrictWeakOrder-by_number (place_in xs))
@@ -44,16 +45,16 @@ pub none-above : (xs : List ℕ) (i j : ℕ) → is_member i xs ≡ false → is
 none-above xs i j none there = let past = place-none xs i none in let less = place-member xs j there in lt-ltb _ _ (omega arith)
 
 -- a number that is a member stands there at least once
-pub times-member : (i : ℕ) (xs : List ℕ) → is_member i xs ≡ true → 1 ≤ times i xs
+pub times-member : (i : ℕ) (xs : List ℕ) → is_member i xs ≡ true → 1 ≤ times_in i xs
 times-member i [] there = absurd cc
 times-member i (x ∷ xs) there = by_test (times-member i xs) (x == i) there
   where
-    by_test : (is_member i xs ≡ true → 1 ≤ times i xs) → (b : Bool) → (b || is_member i xs) ≡ true → 1 ≤ (if b then 1 else 0) + times i xs
+    by_test : (is_member i xs ≡ true → 1 ≤ times_in i xs) → (b : Bool) → (b || is_member i xs) ≡ true → 1 ≤ (if b then 1 else 0) + times_in i xs
     by_test rest true is = omega arith
     by_test rest false is = omega (arith, rest is)
 
 -- and one that stands nowhere is no member, and not earlier than another
-times-none : (i : ℕ) (xs : List ℕ) → times i xs ≤ 0 → is_member i xs ≡ false
+times-none : (i : ℕ) (xs : List ℕ) → times_in i xs ≤ 0 → is_member i xs ≡ false
 times-none i xs none = by_test (is_member i xs) refl
   where
     by_test : (b : Bool) → is_member i xs ≡ b → b ≡ false
@@ -83,7 +84,7 @@ once-tail x xs once n = omega (arith, once n)
 
 -- and the first is not among them
 pub once-head : (x : ℕ) (xs : List ℕ) → StandOnce (x ∷ xs) → is_member x xs ≡ false
-once-head x xs once = times-none x xs (let same : (x == x) ≡ true = grind (arith, nat_tests) in let told : (if x == x then 1 else 0) + times x xs ≤ 1 = once x in let told' : 1 + times x xs ≤ 1 = rw same at told in omega (arith, told'))
+once-head x xs once = times-none x xs (let same : (x == x) ≡ true = grind (arith, nat_tests) in let told : (if x == x then 1 else 0) + times_in x xs ≤ 1 = once x in let told' : 1 + times_in x xs ≤ 1 = rw same at told in omega (arith, told'))
 
 -- of two members the one that is earlier has the lesser place
 pub earlier-places : (xs : List ℕ) (i j : ℕ) → StandOnce xs → is_member i xs ≡ true → is_member j xs ≡ true → is_earlier i j xs ≡ nat_lt (place_in xs i) (place_in xs j)

@@ -1,8 +1,9 @@
 -- Items by their numbers, topmost first, as a forest of lists orders them.
-use Rattle.std.specs.Prelude.{◌≤◌, ℕ, ◌+◌, ◌==◌, nat_lt, List, [], ◌∷◌, Bool, IsTrue, Option, None, Some, map, slice_index_or, if◌then◌else◌}
+use Rattle.std.specs.Prelude.{◌≤◌, ℕ, ◌+◌, ◌==◌, nat_lt, List, [], ◌∷◌, Bool, Option, None, Some, map, slice_index_or, if◌then◌else◌}
 use Rattle.box_tree.specs.declared.item.Item.{Item}
 use Rattle.box_tree.specs.declared.item.Part.TheVariants.{Box}
 use Rattle.box_tree.specs.Numbers.{ItemsState}
+use Rattle.box_tree.specs.Planned.{times_in}
 use Rattle.paint_order.specs.Order.{flattened, is_member, IsWhole, NestWithin}
 use Rattle.paint_order.specs.State.{State}
 
@@ -15,22 +16,13 @@ place_in (x ∷ xs) n = if x == n then 0 else place_in xs n + 1
 abbrev pub lies_above : List ℕ → ℕ → ℕ → Bool
 lies_above xs n other = nat_lt (place_in xs other) (place_in xs n)
 
--- how often a number stands in a list
-abbrev pub times : ℕ → List ℕ → ℕ
-times n [] = 0
-times n (x ∷ xs) = (if x == n then 1 else 0) + times n xs
-
 -- no number stands twice
 abbrev pub StandOnce : List ℕ → Type 0
-StandOnce xs = (n : ℕ) → times n xs ≤ 1
+StandOnce xs = (n : ℕ) → times_in n xs ≤ 1
 
 -- the numbers of the items of a forest, from bottom to top
 abbrev pub painted : State → List ℕ
 painted forest = flattened 256 forest.lists forest.root
-
--- the number is that of an item which is painted
-abbrev pub IsPainted : State → ℕ → Type 0
-IsPainted forest n = IsTrue (is_member n (painted forest))
 
 -- a forest in which any two items that are painted can be ordered
 pub record IsOrdered (forest : State) : Type 0 where

@@ -1,18 +1,16 @@
 // The order of items by their numbers, topmost first, in place.
 ghost use Rattle.std.specs.Prelude.{◌≡◌, ◌<◌};
-ghost use Rattle.std.specs.List.{All};
 ghost use Rattle.std.specs.List.Sorted.{IsPermutation, IsSortedBy};
 ghost use Rattle.std.specs.Ordering.{is_lt};
-ghost use Rattle.point_query.specs.Topmost.{lies_above, painted, IsPainted, IsOrdered};
+ghost use Rattle.point_query.specs.Topmost.{lies_above, painted, IsOrdered};
 
 use fractions::{Blank, Brand, Ledger, Steps};
 use paint_order::Forest;
 use std::cmp::Ordering;
 
-// Orders the numbers of items that are painted, the topmost first.
+// Orders the numbers of items, the topmost first.
 pub(crate) fn order_topmost_first(forest: &Forest, numbers: &mut [u32])
-    requires ordered { IsOrdered forest.now }
-    requires painted { All (IsPainted forest.now) numbers.old }
+    requires { IsOrdered forest.now }
     ensures permutation { IsPermutation numbers.old numbers.new }
     ensures sorted { IsSortedBy (lies_above (painted forest.now)) numbers.new }
 {

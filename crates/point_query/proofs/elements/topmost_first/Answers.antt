@@ -6,18 +6,13 @@ use Rattle.box_tree.specs.Numbers.{IsNumber}
 use Rattle.point_query.specs.Elements.{elements_of}
 use Rattle.point_query.specs.Topmost.{items_named}
 use Rattle.point_query.proofs.CandidateLemmas.{front-permutation, once-permutation, member-permutation, all-member}
-use Rattle.point_query.proofs.LayerLemmas.{forest-ordered, number-painted, elements-topmost_first}
+use Rattle.point_query.proofs.LayerLemmas.{forest-ordered, elements-topmost_first}
 use Rattle.point_query.proofs.elements.topmost_first.Goals as goal
 
-pub order_topmost_first-requires-clause-ordered : goal.order_topmost_first-requires-clause-ordered
-order_topmost_first-requires-clause-ordered g c =
+pub order_topmost_first-requires : goal.order_topmost_first-requires
+order_topmost_first-requires g c =
     let page = c.args.page.now in
     forest-ordered page.contents c.validity.ensures page.items c.numbering.ensures c.args.forest.now c.requires.forest c.args.root c.requires.root
-
-pub order_topmost_first-requires-clause-painted : goal.order_topmost_first-requires-clause-painted
-order_topmost_first-requires-clause-painted g c =
-    let page = c.args.page.now in
-    λ k d within. number-painted page.contents c.validity.ensures page.items c.numbering.ensures c.args.forest.now c.requires.forest c.args.root c.requires.root _ (c.candidates-count.ensures.numbers k d within)
 
 pub returns-clause-elements : goal.returns-clause-elements
 returns-clause-elements g c =
