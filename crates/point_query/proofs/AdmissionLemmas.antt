@@ -1,12 +1,12 @@
 -- The element of one item, by its node as a reader sees it.
-use Rattle.std.proofs.Common.{◌≡◌, ℕ, ℤ, List, [], ◌∷◌, map, Option, Some, None, IsSome, Bool, true, false, cond, if◌then◌else◌, refl, sym, ap, subst, ◌∙◌}
-use Rattle.std.specs.Prelude.{◌&&◌, IfSome}
+use Rattle.std.proofs.Common.{◌≡◌, ℕ, ℤ, List, [], ◌∷◌, map, Option, Some, None, IsSome, Bool, true, false, cond, if◌then◌else◌, refl, sym, ap, ◌∙◌}
+use Rattle.std.specs.Prelude.{◌&&◌}
 use Rattle.std.specs.Option.{option_map, option_map_or}
 use Rattle.computed_style.specs.declared.inherited.Inherited.{Inherited}
 use Rattle.box_tree.specs.declared.item.Item.{Item}
 use Rattle.box_tree.specs.declared.node.Node.{Node}
 use Rattle.box_tree.specs.Forest.{Label, Placed}
-use Rattle.box_tree.specs.Contents.{Contents, node_of, parent_id, IsValid}
+use Rattle.box_tree.specs.Contents.{Contents, node_of, parent_id}
 use Rattle.box_tree.specs.Kept.{label_of}
 use Rattle.box_tree.proofs.PlacedLemmas.{IsSeenAt, seen_at}
 use Rattle.spaces.specs.declared.space.FinePoint.{FinePoint}

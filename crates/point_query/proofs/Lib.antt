@@ -11,3 +11,4 @@ pub mod LayerLemmas
 pub mod KeptLemmas
 pub mod CandidateLemmas
 pub mod CellLemmas
+pub mod BoundLemmas

@@ -4,3 +4,4 @@ pub mod Chain
 pub mod Elements
 pub mod Topmost
 pub mod Near
+pub mod Bound

@@ -1,5 +1,5 @@
 // Which items are admitted at a point of the viewport, and what element each of them belongs to.
-ghost use Rattle.std.specs.Prelude.{◌≡◌, ◌∷◌, [], ◌^◌, slice_get, IsTrue, IfSome, false};
+ghost use Rattle.std.specs.Prelude.{◌≡◌, ◌+◌, ◌≤◌, ◌∷◌, [], ◌^◌, slice_get, IsTrue, IfSome, false};
 ghost use Rattle.std.specs.Option.{option_map_or, option_to_list};
 ghost use Rattle.corner_shapes.specs.Held.{in_rounded};
 ghost use Rattle.affine.specs.Function.{AreWithin};
@@ -9,6 +9,7 @@ ghost use Rattle.box_tree.specs.Forms.{IsFormInRange};
 ghost use Rattle.box_tree.specs.Kept.{label_of};
 ghost use Rattle.spaces.specs.Table.{IsTableOf};
 ghost use Rattle.scroll_clip.specs.Curves.{border_curve, padding_curve, HasCurvesInRange};
+ghost use Rattle.point_query.specs.Bound.{member_bound};
 ghost use Rattle.point_query.specs.Elements.{elements_of, part_admits};
 
 use crate::areas::element_of;
@@ -19,7 +20,8 @@ use fractions::{Ledger, Steps};
 use scroll_clip::{border_curve, inside_clips, padding_curve};
 use spaces::{FinePoint, SpaceTable};
 
-// The element of an item, where the item is admitted at a point of the viewport, by the table of the page.
+// The element of an item, where the item is admitted at a point of the viewport, by the table of the page. Of the steps that
+// the item may take it leaves two: that in which its number is read in a cell, and that in which its number names it.
 pub(crate) fn admitted_element<L: Ledger>(
     page: &Page,
     spaces: &SpaceTable,
@@ -31,7 +33,8 @@ pub(crate) fn admitted_element<L: Ledger>(
     requires table { IsTableOf spaces.now page.now.contents }
     requires x { IsWithin 20 x }
     requires y { IsWithin 20 y }
-    ensures { option_to_list result ≡ elements_of page.now.contents x y (item ∷ []) }
+    ensures element { option_to_list result ≡ elements_of page.now.contents x y (item ∷ []) }
+    ensures cost { steps.new + 2 ≤ steps.old + member_bound page.now.contents item }
 {
     if !page.has(item.node) {
         return None;

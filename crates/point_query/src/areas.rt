@@ -1,9 +1,12 @@
 // The element of an item, and the area of an image map in the place of its image.
-ghost use Rattle.std.specs.Prelude.{◌≡◌, ◌≤◌, ◌<◌, ◌^◌, unsigned_abs};
+ghost use Rattle.std.specs.Prelude.{◌≡◌, ◌+◌, ◌≤◌, ◌<◌, ◌^◌, length, unsigned_abs};
 ghost use Rattle.computed_style.specs.Ranges.{IsSide};
 ghost use Rattle.box_tree.specs.Contents.{IsWithin, IsBoxInRange};
+ghost use Rattle.box_tree.specs.Covers.{areas_of};
+ghost use Rattle.box_tree.specs.Forest.{roots_of};
 ghost use Rattle.box_tree.specs.Kept.{label_of};
 ghost use Rattle.scroll_clip.specs.Curves.{HasCurvesInRange};
+ghost use Rattle.point_query.specs.Bound.{areas_named};
 ghost use Rattle.point_query.specs.Elements.{element_as};
 ghost use Rattle.point_query.specs.ImageMaps.{map_named, past_border, area_in, area_at};
 
@@ -21,7 +24,8 @@ pub(crate) fn element_of<L: Ledger>(
     steps: &mut Steps<L>,
 ) -> u32
     requires { HasCurvesInRange (label_of node.now) }
-    ensures { result ≡ element_as node.now.kind node.now.parent node.now.id (area_at page.now.contents (label_of node.now) at) }
+    ensures element { result ≡ element_as node.now.kind node.now.parent node.now.id (area_at page.now.contents (label_of node.now) at) }
+    ensures cost { steps.new ≤ steps.old + areas_named page.now.contents node.now.form }
 {
     match node.kind {
         Kind::Image => area_at(page, node, at, steps).unwrap_or(node.id),
@@ -41,7 +45,8 @@ pub(crate) fn element_of<L: Ledger>(
 // The area at a local point of an image that has a box and names a map.
 fn area_at<L: Ledger>(page: &Page, node: &Node, at: FinePoint, steps: &mut Steps<L>) -> Option<u32>
     requires { HasCurvesInRange (label_of node.now) }
-    ensures { result ≡ area_at page.now.contents (label_of node.now) at }
+    ensures area { result ≡ area_at page.now.contents (label_of node.now) at }
+    ensures cost { steps.new ≤ steps.old + areas_named page.now.contents node.now.form }
 {
     let piece = node.boxes.as_slice().first()?;
     let map = map_named(&node.form)?;
@@ -69,7 +74,8 @@ fn area_in<L: Ledger>(
 ) -> Option<u32>
     requires node { HasCurvesInRange (label_of node.now) }
     requires piece { IsBoxInRange piece.now }
-    ensures { result ≡ area_in page.now.contents (label_of node.now) piece.now map at }
+    ensures area { result ≡ area_in page.now.contents (label_of node.now) piece.now map at }
+    ensures cost { steps.new ≤ steps.old + length (roots_of (areas_of page.now.contents map)) }
 {
     if !padding_curve(node, piece).holds(at.x, at.y) {
         return None;

@@ -1,9 +1,10 @@
 // Which of some items are admitted at a point, by their numbers, and their elements in place of these.
 ghost use Rattle.std.specs.Prelude.{◌≡◌, ◌+◌, ◌<◌, ◌≤◌, ◌++◌, ℕ, length, take, slice_get, slice_index_or};
-ghost use Rattle.std.specs.List.{All};
+ghost use Rattle.std.specs.List.{All, sum_by};
 ghost use Rattle.box_tree.specs.Contents.{IsWithin};
 ghost use Rattle.box_tree.specs.Numbers.{IsNumber};
 ghost use Rattle.spaces.specs.Table.{IsTableOf};
+ghost use Rattle.point_query.specs.Bound.{member_bound};
 ghost use Rattle.point_query.specs.Elements.{elements_of, each_once, then_root, ends_with};
 ghost use Rattle.point_query.specs.Topmost.{items_named, if_new};
 
@@ -13,7 +14,7 @@ use fractions::{Ledger, Steps};
 use spaces::SpaceTable;
 
 // Writes the elements of those of the first `count` items that are admitted at a point in their place, in their order and
-// each once, and answers how many they are.
+// each once, and answers how many they are. Of the steps that each of the items may take it leaves one.
 pub(crate) fn keep_admitted<L: Ledger>(
     page: &Page,
     spaces: &SpaceTable,
@@ -29,6 +30,7 @@ pub(crate) fn keep_admitted<L: Ledger>(
     requires within { count ≤ length room.old }
     requires numbers { All (IsNumber page.now.items) (take count room.old) }
     ensures elements { take result room.new ≡ each_once (elements_of page.now.contents x y (items_named page.now.items (take count room.old))) }
+    ensures cost { steps.new + count ≤ steps.old + sum_by (member_bound page.now.contents) (items_named page.now.items (take count room.old)) }
     ensures len { length room.new ≡ length room.old }
     ensures fewer { result ≤ count }
 {
@@ -59,7 +61,8 @@ fn write_if_new(ids: &mut [u32], count: usize, id: Option<u32>) -> usize
     count + 1
 }
 
-// The element of the first of some items that is admitted at a point.
+// The element of the first of some items that is admitted at a point. Of the steps that each of the items may take it leaves
+// one.
 pub(crate) fn first_admitted<L: Ledger>(
     page: &Page,
     spaces: &SpaceTable,
@@ -72,7 +75,8 @@ pub(crate) fn first_admitted<L: Ledger>(
     requires x { IsWithin 20 x }
     requires y { IsWithin 20 y }
     requires numbers { All (IsNumber page.now.items) numbers.now }
-    ensures { result ≡ slice_get (elements_of page.now.contents x y (items_named page.now.items numbers.now)) 0 }
+    ensures first { result ≡ slice_get (elements_of page.now.contents x y (items_named page.now.items numbers.now)) 0 }
+    ensures cost { steps.new + length numbers.now ≤ steps.old + sum_by (member_bound page.now.contents) (items_named page.now.items numbers.now) }
 {
     for number in numbers {
         let item = page.item(*number, steps);

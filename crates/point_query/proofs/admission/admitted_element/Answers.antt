@@ -12,6 +12,7 @@ use Rattle.tree_edits.proofs.BoundsLemmas.{width-entered}
 use Rattle.point_query.specs.Elements.{element_as}
 use Rattle.point_query.specs.ImageMaps.{area_at}
 use Rattle.point_query.proofs.AdmissionLemmas.{elements_of-kept}
+use Rattle.point_query.proofs.BoundLemmas.{holders-depth, areas-seen}
 use Rattle.point_query.proofs.admission.admitted_element.Goals as goal
 
 pub part_admits-requires-clause-curves : goal.part_admits-requires-clause-curves
@@ -27,8 +28,8 @@ part_admits-requires-clause-width g c =
 pub element_of-requires : goal.element_of-requires
 element_of-requires g c = curves-seen c.args.page.now.contents c.validity.ensures c.args.item.node c.node-node.result.now c.node-node.ensures.node
 
-pub returns-then-not-part_admits : goal.returns-then-not-part_admits
-returns-then-not-part_admits g c =
+pub returns-then-not-part_admits-clause-element : goal.returns-then-not-part_admits-clause-element
+returns-then-not-part_admits-clause-element g c =
     let page = c.args.page.now.contents in
     let node = c.node-node.result.now in
     let x_is : to_z w64 (of_z w64 c.args.x) ≡ c.args.x = omega (arith, ints) in
@@ -37,8 +38,8 @@ returns-then-not-part_admits g c =
     sym (elements_of-kept c.args.spaces.now page c.requires.table c.args.item c.values_of-values.result.now c.values_of-values.ensures.values c.args.x c.args.y node c.in_ok-at.at c.node-node.ensures.node at_is
     ∙ ap (λ (held : Bool). if held && inside_clips page c.args.item.node c.args.x c.args.y then element_as node.kind node.parent node.id (area_at page (label_of node) c.in_ok-at.at) ∷ [] else []) (sym c.part_admits.ensures ∙ c.if-not-part_admits.true))
 
-pub returns-then-not-inside_clips : goal.returns-then-not-inside_clips
-returns-then-not-inside_clips g c =
+pub returns-then-not-inside_clips-clause-element : goal.returns-then-not-inside_clips-clause-element
+returns-then-not-inside_clips-clause-element g c =
     let page = c.args.page.now.contents in
     let node = c.node-node.result.now in
     let x_is : to_z w64 (of_z w64 c.args.x) ≡ c.args.x = omega (arith, ints) in
@@ -49,8 +50,8 @@ returns-then-not-inside_clips g c =
     ∙ ap (λ (held : Bool). if held && inside_clips page c.args.item.node c.args.x c.args.y then element_as node.kind node.parent node.id (area_at page (label_of node) c.in_ok-at.at) ∷ [] else []) (sym c.part_admits.ensures ∙ c.if-not-part_admits.false)
     ∙ ap (λ (held : Bool). if held then element_as node.kind node.parent node.id (area_at page (label_of node) c.in_ok-at.at) ∷ [] else []) (sym inside ∙ c.if-not-inside_clips.true))
 
-pub returns : goal.returns
-returns g c =
+pub returns-clause-element : goal.returns-clause-element
+returns-clause-element g c =
     let page = c.args.page.now.contents in
     let node = c.node-node.result.now in
     let x_is : to_z w64 (of_z w64 c.args.x) ≡ c.args.x = omega (arith, ints) in
@@ -60,4 +61,23 @@ returns g c =
     sym (elements_of-kept c.args.spaces.now page c.requires.table c.args.item c.values_of-values.result.now c.values_of-values.ensures.values c.args.x c.args.y node c.in_ok-at.at c.node-node.ensures.node at_is
     ∙ ap (λ (held : Bool). if held && inside_clips page c.args.item.node c.args.x c.args.y then element_as node.kind node.parent node.id (area_at page (label_of node) c.in_ok-at.at) ∷ [] else []) (sym c.part_admits.ensures ∙ c.if-not-part_admits.false)
     ∙ ap (λ (held : Bool). if held then element_as node.kind node.parent node.id (area_at page (label_of node) c.in_ok-at.at) ∷ [] else []) (sym inside ∙ c.if-not-inside_clips.false)
-    ∙ ap (λ (element : ℕ). element ∷ []) (sym c.element_of.ensures))
+    ∙ ap (λ (element : ℕ). element ∷ []) (sym c.element_of.ensures.element))
+
+pub returns-then-not-inside_clips-clause-cost : goal.returns-then-not-inside_clips-clause-cost
+returns-then-not-inside_clips-clause-cost g c =
+    let page = c.args.page.now.contents in
+    omega (arith, c.in_ok-at.ensures.step, c.values_of-values.ensures.step, c.node-node.ensures.step, c.inside_clips.ensures.cost, holders-depth page c.args.item.node)
+
+pub returns-clause-cost : goal.returns-clause-cost
+returns-clause-cost g c =
+    let page = c.args.page.now.contents in
+    omega (
+      arith,
+      c.in_ok-at.ensures.step,
+      c.values_of-values.ensures.step,
+      c.node-node.ensures.step,
+      c.inside_clips.ensures.cost,
+      c.element_of.ensures.cost,
+      holders-depth page c.args.item.node,
+      areas-seen page c.args.item.node c.node-node.result.now c.node-node.ensures.node,
+    )

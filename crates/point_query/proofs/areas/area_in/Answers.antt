@@ -36,8 +36,8 @@ past_border-y-requires-clause-at g c =
     let near = near-down c.padding_curve.result _ _ c.padding_curve.ensures.measured (c.holds.ensures.held.0 c.if-not-holds.false) in
     omega (arith, ints, near)
 
-pub returns : goal.returns
-returns g c =
+pub returns-clause-area : goal.returns-clause-area
+returns-clause-area g c =
     let n = label_of c.args.node.now in
     let box = c.args.piece.now in
     let at = c.args.at in

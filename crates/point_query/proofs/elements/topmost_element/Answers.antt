@@ -34,7 +34,7 @@ returns-clause-first g c =
     let y_is : to_z w64 (of_z w64 c.args.y) ≡ c.args.y = omega (arith, ints) in
     let told = rw (x_is, y_is, c.viewport-viewport.ensures) at c.holds_point.ensures in
     let inside : is_inside page.viewport c.args.x c.args.y ≡ true = sym told ∙ c.if-not-holds_point.false in
-    let first = rw (x_is, y_is) at c.first_admitted-first.ensures in
+    let first = rw (x_is, y_is) at c.first_admitted-first.ensures.first in
     let ordered = rw (x_is, y_is) at c.topmost_first-count.ensures.elements in
     ap (λ (id : ℕ). Some id) (c.unwrap_or.ensures ∙ ap (λ (o : Option ℕ). unwrap_or o root) (first ∙ ap (λ (ids : List ℕ). slice_get ids 0) ordered))
     ∙ first-then_root root (elements_of page c.args.x c.args.y (reverse (of_node layer page root)))

@@ -7,6 +7,7 @@ use mir.Val.{to_z, of_z}
 use Rattle.box_tree.specs.Numbers.{IsNumber, Names}
 use Rattle.point_query.specs.Elements.{elements_of, each_once}
 use Rattle.point_query.specs.Topmost.{items_named, if_new}
+use Rattle.point_query.proofs.BoundLemmas.{steps-more}
 use Rattle.point_query.proofs.KeptLemmas.{elements-more, once-written}
 use Rattle.point_query.proofs.kept.keep_admitted.Goals as goal
 
@@ -14,6 +15,7 @@ pub loop-at-init : goal.loop-at-init
 loop-at-init g c = record {
   kept_is = refl;
   fewer = omega arith;
+  taken = omega arith;
   rest = λ k d below. refl;
 }
 
@@ -42,9 +44,10 @@ loop-at-preserved g c =
       kept_is = w.ensures.ids
           ∙ ap (λ (ids : List ℕ). ids ++ if_new ids c.admitted_element-element.result) l.invariant.kept_is
           ∙ sym (once-written before c.admitted_element-element.result)
-          ∙ ap (λ (ids : List ℕ). each_once (before ++ ids)) c.admitted_element-element.ensures
+          ∙ ap (λ (ids : List ℕ). each_once (before ++ ids)) c.admitted_element-element.ensures.element
           ∙ ap each_once (sym more);
       fewer = omega (arith, w.ensures.more.1, l.invariant.fewer);
+      taken = omega (arith, steps-more page.contents page.items room l.at c.item-item.result (omega arith) names, l.invariant.taken, c.item-item.ensures.step, c.admitted_element-element.ensures.cost);
       rest = λ k d below. w.ensures.rest k d (omega (arith, below, l.invariant.fewer)) ∙ l.invariant.rest k d (omega (arith, below));
     }
 
@@ -56,3 +59,9 @@ returns-clause-elements g c =
     let y_is : to_z w64 (of_z w64 c.args.y) ≡ c.args.y = omega (arith, ints) in
     let all : l.at ≡ c.args.count = omega arith in
     rw (x_is, y_is, all) at l.invariant.kept_is
+
+pub returns-clause-cost : goal.returns-clause-cost
+returns-clause-cost g c =
+    let l = c.loop-at in
+    let all : l.at ≡ c.args.count = omega arith in
+    rw all at l.invariant.taken
