@@ -44,7 +44,7 @@ areas-seen page id node seen =
 -- ---- the steps of a list of items
 
 -- each item may take one step at least
-more-than_length : (page : Contents) (items : List Item) → length items ≤ sum_by (member_bound page) items
+pub more-than_length : (page : Contents) (items : List Item) → length items ≤ sum_by (member_bound page) items
 more-than_length page [] = omega arith
 more-than_length page (item ∷ items) = omega (arith, more-than_length page items, sum_by-cons (member_bound page) item items)
 

@@ -8,7 +8,7 @@ use Rattle.std.proofs.lemmas.Bool.Decides.{nat_tests}
 use Rattle.std.proofs.lemmas.Int.{ints}
 use Rattle.std.proofs.lemmas.List.{length-map}
 use Rattle.std.proofs.lemmas.List.Sums.{sum_by-cons}
-use Rattle.std.proofs.lemmas.List.Sorted.{IsPermutation-refl, IsPermutation-sym, IsPermutation-trans, IsPermutation-cons, IsPermutation-middle}
+use Rattle.std.proofs.lemmas.List.Sorted.{IsPermutation-refl, IsPermutation-sym, IsPermutation-trans, IsPermutation-cons, IsPermutation-middle, length_permutation}
 use Rattle.fractions.specs.declared.rect.Rect.{Rect}
 use Rattle.spatial_index.specs.Cells.{Region, IsCell, is_empty, line_of, least_level, level_of, is_met}
 use Rattle.spatial_index.specs.Contents.{GridState, cell_at, times as stands, once_if}
@@ -33,7 +33,7 @@ use Rattle.point_query.specs.Elements.{is_inside}
 use Rattle.point_query.specs.Near.{meets_cell_at, near_items, members_below}
 use Rattle.point_query.specs.Topmost.{StandOnce}
 use Rattle.point_query.proofs.TopmostLemmas.{times-member}
-use Rattle.point_query.proofs.LayerLemmas.{counted-each, trees-items, painted-item, member-map, times-nowhere, number-names, times-number, number-in_layer}
+use Rattle.point_query.proofs.LayerLemmas.{counted-each, trees-items, painted-item, member-map, map-member, times-nowhere, number-names, times-number, number-in_layer}
 use Rattle.point_query.proofs.CandidateLemmas.{once-fewer, counted-all, trees-count}
 
 -- ---- how often numbers stand
@@ -131,6 +131,32 @@ number-or_not s n = by_item (slice_get s.given n) refl
         by_tests false b is is' = inr (λ has. let there = subst (λ (i : Item). place_of i.part < length (numbers_of s i.node)) (same has) has.1.there in absurd (grind (arith, nat_tests)))
         by_tests true false is is' = inr (λ has. let number = subst (λ (i : Item). number_of s i ≡ n) (same has) has.1.number_is in absurd (grind (arith, nat_tests)))
 
+-- ---- the items near a point
+
+module _ (page : Contents) (valid : IsValid page) (x y : ℤ) where
+  abbrev test : Item → Bool
+  test item = meets_cell_at (view_bounds page item) x y
+
+  pub near-are_items : AllByRecursion (IsItem page) (near_items page x y)
+  near-are_items = all-filter (IsItem page) test (items_in [] page.tree) (trees-items page valid [] page.tree (page-at_places page valid))
+
+  -- an item of the page is counted once among those near the point where it is one
+  counted-near : (item : Item) → IsItem page item → count (is_item item) (near_items page x y) ≡ once_if (test item)
+  counted-near item is = by_test (test item) refl
+    where
+      one : count (is_item item) (items_in [] page.tree) ≡ 1
+      one = omega (arith, painted-item page item valid is, once.each_item_is_painted_once page valid item, all_items_are_painted page valid (is_item item))
+
+      by_test : (b : Bool) → test item ≡ b → count (is_item item) (near_items page x y) ≡ once_if b
+      by_test true passes = count-filter test item (items_in [] page.tree) ∙ ap {B = ℕ} (λ (b : Bool). if b then count (is_item item) (items_in [] page.tree) else 0) passes ∙ one
+      by_test false passes = count-filter test item (items_in [] page.tree) ∙ ap {B = ℕ} (λ (b : Bool). if b then count (is_item item) (items_in [] page.tree) else 0) passes
+
+  -- the number of an item that is near the point is one of theirs
+  pub number-near : (s : ItemsState) → IsNumberedPage page s → (n : ℕ) (item : Item) → Names s n item → meets_cell_at (view_bounds page item) x y ≡ true → is_member n (map (number_of s) (near_items page x y)) ≡ true
+  number-near s are n item names near =
+      subst (λ (k : ℕ). is_member k (map (number_of s) (near_items page x y)) ≡ true) names.number_is
+      (map-member (number_of s) item (near_items page x y) (omega (arith, counted-near item (are.only n item names), ap once_if near)))
+
 -- ---- the cells of a point
 
 module _ (page : Contents) (s : ItemsState) (grid : GridState) (of_page : IsGridOf grid page s) (x y : ℤ) (inside : is_inside page.viewport x y ≡ true) where
@@ -208,23 +234,6 @@ module _ (page : Contents) (s : ItemsState) (grid : GridState) (of_page : IsGrid
       trees-count [] page.tree,
     )
 
-    abbrev test : Item → Bool
-    test item = meets_cell_at (view_bounds page item) x y
-
-    pub near-are_items : AllByRecursion (IsItem page) (near_items page x y)
-    near-are_items = all-filter (IsItem page) test (items_in [] page.tree) (trees-items page valid [] page.tree (page-at_places page valid))
-
-    -- an item of the page is counted once among those near the point where it is one
-    near-count : (item : Item) → IsItem page item → count (is_item item) (near_items page x y) ≡ once_if (test item)
-    near-count item is = by_test (test item) refl
-      where
-        one : count (is_item item) (items_in [] page.tree) ≡ 1
-        one = omega (arith, painted-item page item valid is, once.each_item_is_painted_once page valid item, all_items_are_painted page valid (is_item item))
-
-        by_test : (b : Bool) → test item ≡ b → count (is_item item) (near_items page x y) ≡ once_if b
-        by_test true passes = count-filter test item (items_in [] page.tree) ∙ ap {B = ℕ} (λ (b : Bool). if b then count (is_item item) (items_in [] page.tree) else 0) passes ∙ one
-        by_test false passes = count-filter test item (items_in [] page.tree) ∙ ap {B = ℕ} (λ (b : Bool). if b then count (is_item item) (items_in [] page.tree) else 0) passes
-
     -- they are the numbers of the items near the point
     pub near-members : IsPermutation (map (number_of s) (near_items page x y)) (members_below grid x y 10)
     near-members = permutation-times (map (number_of s) (near_items page x y)) (members_below grid x y 10) alike
@@ -235,7 +244,7 @@ module _ (page : Contents) (s : ItemsState) (grid : GridState) (of_page : IsGrid
             by_test : (b : Bool) → is_member n (map (number_of s) (near_items page x y)) ≡ b → times_in n (map (number_of s) (near_items page x y)) ≡ 0
             by_test true there =
                 let found = member-map (number_of s) n (near_items page x y) there in
-                let is = counted-each (IsItem page) (near_items page x y) near-are_items found.0 found.1 in
+                let is = counted-each (IsItem page) (near_items page x y) (near-are_items page valid x y) found.0 found.1 in
                 absurd (none (found.0, subst (λ (k : ℕ). Names s k found.0) found.2 (number-names page valid s are found.0 is)))
             by_test false nowhere = times-nowhere n (map (number_of s) (near_items page x y)) nowhere
 
@@ -244,8 +253,12 @@ module _ (page : Contents) (s : ItemsState) (grid : GridState) (of_page : IsGrid
           | inl is ↦
               let item_is = are.only n is.0 is.1 in
               ap (λ (k : ℕ). times_in k (map (number_of s) (near_items page x y))) (sym is.1.number_is)
-              ∙ times-number page valid s are is.0 item_is (near_items page x y) near-are_items
-              ∙ near-count is.0 item_is
+              ∙ times-number page valid s are is.0 item_is (near_items page x y) (near-are_items page valid x y)
+              ∙ counted-near page valid x y is.0 item_is
               ∙ sym (times-members n is.0 is.1)
           | inr none ↦ none-near n none ∙ sym (times-no_number n none 10 (omega arith))
         ]
+
+    -- and as many as these
+    pub near-count : length (members_below grid x y 10) ≡ length (near_items page x y)
+    near-count = length_permutation (map (number_of s) (near_items page x y)) (members_below grid x y 10) near-members ∙ length-map (near_items page x y) (number_of s)

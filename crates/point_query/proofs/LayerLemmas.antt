@@ -207,7 +207,7 @@ module _ (page : Contents) (valid : IsValid page) (s : ItemsState) (are : IsNumb
       (map-member (number_of s) is.0 (root_layer page.tree) (painted-item page is.0 valid (are.only n is.0 is.1)))
 
   -- the items that the numbers of items name are these items
-  named-numbers : (items : List Item) → AllByRecursion (IsItem page) items → items_named s (map (number_of s) items) ≡ items
+  pub named-numbers : (items : List Item) → AllByRecursion (IsItem page) items → items_named s (map (number_of s) items) ≡ items
   named-numbers [] all = refl
   named-numbers (item ∷ items) all =
       let name = number-names item all.0 in

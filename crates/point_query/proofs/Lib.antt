@@ -12,3 +12,4 @@ pub mod KeptLemmas
 pub mod CandidateLemmas
 pub mod CellLemmas
 pub mod BoundLemmas
+pub mod QueryLemmas

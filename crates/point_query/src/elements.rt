@@ -1,14 +1,13 @@
-ghost use Rattle.std.specs.Prelude.{◌≡◌, ◌↔◌, ◌⊎◌, ◌+◌, ◌≤◌, false, IsNone, [], ◌∷◌, ◌&&◌, int_le, length, take, reverse, All};
-ghost use Rattle.box_tree.specs.Contents.{IsWithin, IsValid};
+ghost use Rattle.std.specs.Prelude.{◌≡◌, ◌↔◌, ◌⊎◌, ◌+◌, ◌≤◌, false, IsNone, IsTrue, IsFalse, IfSome, [], ◌&&◌, int_le, length, take};
+ghost use Rattle.box_tree.specs.Contents.{IsWithin};
 ghost use Rattle.box_tree.specs.Forest.{roots_of};
 ghost use Rattle.box_tree.specs.Items.{item_count};
-ghost use Rattle.box_tree.specs.Numbers.{IsNumber};
 ghost use Rattle.spaces.specs.Table.{IsTableOf};
-ghost use Rattle.stacking.specs.OnPage.{of_node};
-ghost use Rattle.stacking.specs.Painting.{layer};
+ghost use Rattle.tree_edits.specs.Cells.{IsGridOf};
 ghost use Rattle.tree_edits.specs.Faithful.{IsForestOf};
-ghost use Rattle.point_query.specs.Elements.{elements_of, elements_from_point, element_from_point, is_inside};
-ghost use Rattle.point_query.specs.Topmost.{items_named};
+ghost use Rattle.point_query.specs.Bound.{query_bound, query_least};
+ghost use Rattle.point_query.specs.Elements.{elements_from_point, element_from_point, is_inside};
+ghost use Rattle.point_query.specs.Topmost.{AreTopmostFirst};
 
 use crate::candidates::candidates;
 use crate::kept::{end_with, first_admitted, keep_admitted};
@@ -17,11 +16,14 @@ use box_tree::{Page, Viewport};
 use fractions::{Ledger, Steps};
 use paint_order::Forest;
 use spaces::SpaceTable;
+use spatial_index::Grid;
 use tree_edits::Engine;
 
 /// The elements under a point of the viewport, in units, from top to bottom (CSSOM View, `elementsFromPoint`).
 ///
-/// Empty outside the viewport and without a root. They are written into the room, whatever that holds; it takes no memory.
+/// Empty outside the viewport and without a root. They are written into the room, whatever that holds; it takes no memory. Inside
+/// the viewport it takes at most ten steps and, for each item near the point, twelve, four for each level of the depth of its
+/// node, and one for each area of the map that its node names; outside the viewport it takes none.
 pub fn hit<'a, L: Ledger>(
     engine: &Engine,
     room: &'a mut [u32],
@@ -32,12 +34,15 @@ pub fn hit<'a, L: Ledger>(
     requires x { IsWithin 26 x }
     requires y { IsWithin 26 y }
     requires room { item_count engine.now.contents.tree + 256 ≤ length room.old }
-    ensures { result.now ≡ elements_from_point engine.now.contents x y }
+    ensures elements { result.now ≡ elements_from_point engine.now.contents x y }
+    ensures most { IsTrue (is_inside engine.now.contents.viewport x y) → steps.new ≤ steps.old + query_bound engine.now.contents x y }
+    ensures outside { IsFalse (is_inside engine.now.contents.viewport x y) → steps.new ≡ steps.old }
 {
     let count = write_elements(
         engine.page(),
         engine.spaces(),
         engine.forest(),
+        engine.grid(),
         room,
         x,
         y,
@@ -48,7 +53,8 @@ pub fn hit<'a, L: Ledger>(
 
 /// The topmost element under a point of the viewport, in units (CSSOM View, `elementFromPoint`).
 ///
-/// None exactly outside the viewport and without a root. It works in the room, whatever that holds, and takes no memory.
+/// None exactly outside the viewport and without a root. It works in the room, whatever that holds, and takes no memory. What is
+/// said of the steps of `hit` holds of its steps.
 pub fn top<L: Ledger>(
     engine: &Engine,
     room: &mut [u32],
@@ -61,11 +67,14 @@ pub fn top<L: Ledger>(
     requires room { item_count engine.now.contents.tree + 256 ≤ length room.old }
     ensures first { result ≡ element_from_point engine.now.contents x y }
     ensures none { IsNone result ↔ ((is_inside engine.now.contents.viewport x y ≡ false) ⊎ (roots_of engine.now.contents.tree ≡ [])) }
+    ensures most { IsTrue (is_inside engine.now.contents.viewport x y) → steps.new ≤ steps.old + query_bound engine.now.contents x y }
+    ensures outside { IsFalse (is_inside engine.now.contents.viewport x y) → steps.new ≡ steps.old }
 {
     topmost_element(
         engine.page(),
         engine.spaces(),
         engine.forest(),
+        engine.grid(),
         room,
         x,
         y,
@@ -73,11 +82,12 @@ pub fn top<L: Ledger>(
     )
 }
 
-// Writes the elements from a point, by the table and the forest of the page, and answers how many they are.
+// Writes the elements from a point, by what the engine keeps beside the page, and answers how many they are.
 fn write_elements<L: Ledger>(
     page: &Page,
     spaces: &SpaceTable,
     forest: &Forest,
+    grid: &Grid,
     room: &mut [u32],
     x: i64,
     y: i64,
@@ -85,30 +95,28 @@ fn write_elements<L: Ledger>(
 ) -> usize
     requires table { IsTableOf spaces.now page.now.contents }
     requires forest { IsForestOf forest.now page.now.contents page.now.items }
-    requires x { IsWithin 26 x }
-    requires y { IsWithin 26 y }
+    requires grid { IsGridOf grid.now page.now.contents page.now.items }
     requires room { item_count page.now.contents.tree + 256 ≤ length room.old }
     ensures elements { take result room.new ≡ elements_from_point page.now.contents x y }
     ensures within { result ≤ length room.new }
+    ensures most { IsTrue (is_inside page.now.contents.viewport x y) → steps.new ≤ steps.old + query_bound page.now.contents x y }
+    ensures outside { IsFalse (is_inside page.now.contents.viewport x y) → steps.new ≡ steps.old }
 {
-    let viewport = page.viewport();
-    let Some(root) = page.root() else {
+    let Some(found) = topmost_first(page, forest, grid, room, x, y, steps) else {
         return 0;
     };
-    if !holds_point(&viewport, x, y) {
-        return 0;
-    }
     page.validity();
-    let count = topmost_first(page, forest, room, root, x, y, steps);
-    let kept = keep_admitted(page, spaces, room, count, x, y, steps);
-    end_with(room, kept, root)
+    page.numbering();
+    let kept = keep_admitted(page, spaces, room, found.count, x, y, steps);
+    end_with(room, kept, found.root)
 }
 
-// The first of the elements from a point, by the table and the forest of the page.
+// The first of the elements from a point, by what the engine keeps beside the page.
 fn topmost_element<L: Ledger>(
     page: &Page,
     spaces: &SpaceTable,
     forest: &Forest,
+    grid: &Grid,
     room: &mut [u32],
     x: i64,
     y: i64,
@@ -116,47 +124,57 @@ fn topmost_element<L: Ledger>(
 ) -> Option<u32>
     requires table { IsTableOf spaces.now page.now.contents }
     requires forest { IsForestOf forest.now page.now.contents page.now.items }
-    requires x { IsWithin 26 x }
-    requires y { IsWithin 26 y }
-    requires room { item_count page.now.contents.tree + 256 ≤ length room.old }
+    requires grid { IsGridOf grid.now page.now.contents page.now.items }
+    requires room { item_count page.now.contents.tree ≤ length room.old }
     ensures first { result ≡ element_from_point page.now.contents x y }
     ensures none { IsNone result ↔ ((is_inside page.now.contents.viewport x y ≡ false) ⊎ (roots_of page.now.contents.tree ≡ [])) }
+    ensures most { IsTrue (is_inside page.now.contents.viewport x y) → steps.new ≤ steps.old + query_bound page.now.contents x y }
+    ensures outside { IsFalse (is_inside page.now.contents.viewport x y) → steps.new ≡ steps.old }
 {
-    let viewport = page.viewport();
-    let root = page.root()?;
-    if !holds_point(&viewport, x, y) {
-        return None;
-    }
+    let found = topmost_first(page, forest, grid, room, x, y, steps)?;
     page.validity();
-    let count = topmost_first(page, forest, room, root, x, y, steps);
-    let first = first_admitted(page, spaces, &room[..count], x, y, steps);
-    Some(first.unwrap_or(root))
+    page.numbering();
+    let first = first_admitted(page, spaces, &room[..found.count], x, y, steps);
+    Some(first.unwrap_or(found.root))
 }
 
-// Writes the numbers of the items that may be admitted at a point, the topmost first, and answers how many they are. The
-// elements of these items are those of the layer of the root from top to bottom.
+// The root of a page, and how many of its items are near a point.
+#[derive(Clone, Copy)]
+struct Found {
+    root: u32,
+    count: usize,
+}
+
+// Writes the numbers of the items near a point of the viewport, the topmost first. None exactly outside the viewport and without
+// a root. The cells of a point inside the viewport are visited also where there is no root.
 fn topmost_first<L: Ledger>(
     page: &Page,
     forest: &Forest,
+    grid: &Grid,
     room: &mut [u32],
-    root: u32,
     x: i64,
     y: i64,
     steps: &mut Steps<L>,
-) -> usize
+) -> Option<Found>
     requires forest { IsForestOf forest.now page.now.contents page.now.items }
-    requires root { roots_of page.now.contents.tree ≡ root ∷ [] }
+    requires grid { IsGridOf grid.now page.now.contents page.now.items }
     requires room { item_count page.now.contents.tree ≤ length room.old }
-    ensures elements { elements_of page.now.contents x y (items_named page.now.items (take result room.new)) ≡ elements_of page.now.contents x y (reverse (of_node layer page.now.contents root)) }
-    ensures numbers { All (IsNumber page.now.items) (take result room.new) }
-    ensures fewer { result ≤ item_count page.now.contents.tree }
+    ensures found { IfSome result (λ found. AreTopmostFirst page.now.contents page.now.items x y found.root (take found.count room.new)) }
+    ensures fewer { IfSome result (λ found. found.count ≤ item_count page.now.contents.tree) }
+    ensures none { IsNone result ↔ ((is_inside page.now.contents.viewport x y ≡ false) ⊎ (roots_of page.now.contents.tree ≡ [])) }
     ensures len { length room.new ≡ length room.old }
+    ensures inside { IsTrue (is_inside page.now.contents.viewport x y) → steps.new ≡ steps.old + query_least page.now.contents x y }
+    ensures outside { IsFalse (is_inside page.now.contents.viewport x y) → steps.new ≡ steps.old }
 {
+    if !holds_point(&page.viewport(), x, y) {
+        return None;
+    }
     page.validity();
     page.numbering();
-    let count = candidates(page, room, steps);
+    let count = candidates(page, grid, room, x, y, steps);
+    let root = page.root()?;
     order_topmost_first(forest, &mut room[..count]);
-    count
+    Some(Found { root, count })
 }
 
 // Whether the viewport holds a point, its right and lower edges too.

@@ -1,10 +1,11 @@
--- The numbers of the items of the nodes with lesser ids.
-use Rattle.std.proofs.Common.{◌≡◌, length, take}
-use Rattle.point_query.proofs.CandidateLemmas.{numbers_below}
+-- The members of the cells of the point in the lower levels.
+use Rattle.std.proofs.Common.{◌≡◌, ◌+◌, length, take}
+use Rattle.point_query.specs.Near.{members_below}
 use Rattle.point_query.proofs.candidates.candidates.Given as goal
 
-abbrev pub invariant-loop-id : goal.invariant-loop-id
-invariant-loop-id g l = record {
-  written : take l.count l.room ≡ numbers_below l.page.items l.id;
-  counted : l.count ≡ length (numbers_below l.page.items l.id);
+abbrev pub invariant-loop-level : goal.invariant-loop-level
+invariant-loop-level g l = record {
+  written : take l.count l.room ≡ members_below l.grid l.x l.y l.level;
+  counted : l.count ≡ length (members_below l.grid l.x l.y l.level);
+  taken : l.steps ≡ l.initial.steps + (l.level + l.count);
 }

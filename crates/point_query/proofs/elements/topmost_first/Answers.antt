@@ -1,37 +1,55 @@
--- The candidates are ordered by the forest, so that their elements are those of the layer.
-use Rattle.std.proofs.Common.{ℕ, List, take, drop, ap, sym, subst, ◌∙◌, arith}
-use Rattle.std.specs.Prelude.{All}
-use Rattle.std.proofs.lemmas.List.Sorted.{All-permutation}
-use Rattle.box_tree.specs.Numbers.{IsNumber}
-use Rattle.point_query.specs.Elements.{elements_of}
-use Rattle.point_query.specs.Topmost.{items_named}
-use Rattle.point_query.proofs.CandidateLemmas.{front-permutation, once-permutation, member-permutation, all-member}
-use Rattle.point_query.proofs.LayerLemmas.{forest-ordered, elements-topmost_first}
+-- The numbers of the items near the point are ordered by the forest, where there is a root.
+use Rattle.std.proofs.Common.{◌≡◌, [], ◌∷◌, take, drop, true, sym, subst, ◌∙◌, inl, inr, arith}
+use Rattle.std.proofs.lemmas.Bool.{false≢true}
+use Rattle.std.proofs.lemmas.Int.{ints}
+use mir.Syntax.{w64}
+use mir.Val.{to_z, of_z}
+use Rattle.box_tree.specs.Forest.{roots_of}
+use Rattle.point_query.specs.Elements.{is_inside}
+use Rattle.point_query.specs.Topmost.{AreTopmostFirst}
+use Rattle.point_query.proofs.CandidateLemmas.{front-permutation}
+use Rattle.point_query.proofs.LayerLemmas.{forest-ordered}
+use Rattle.point_query.proofs.QueryLemmas.{ordered-topmost_first}
 use Rattle.point_query.proofs.elements.topmost_first.Goals as goal
 
 pub order_topmost_first-requires : goal.order_topmost_first-requires
 order_topmost_first-requires g c =
     let page = c.args.page.now in
-    forest-ordered page.contents c.validity.ensures page.items c.numbering.ensures c.args.forest.now c.requires.forest c.args.root c.requires.root
+    forest-ordered page.contents c.validity.ensures page.items c.numbering.ensures c.args.forest.now c.requires.forest c.in_ok-root.root (sym c.in_ok-root.ensures.root)
 
-pub returns-clause-elements : goal.returns-clause-elements
-returns-clause-elements g c =
+pub candidates-count-requires-clause-inside : goal.candidates-count-requires-clause-inside
+candidates-count-requires-clause-inside g c =
+    let told = rw c.viewport.ensures at c.holds_point.ensures in
+    sym told ∙ c.if-not-holds_point.false
+
+pub returns-clause-found : goal.returns-clause-found
+returns-clause-found g c =
     let page = c.args.page.now in
-    let before = take c.candidates-count.result c.candidates-count.new.room in
+    let x_is : to_z w64 (of_z w64 c.args.x) ≡ c.args.x = omega (arith, ints) in
+    let y_is : to_z w64 (of_z w64 c.args.y) ≡ c.args.y = omega (arith, ints) in
+    let told = rw (x_is, y_is, c.viewport.ensures) at c.holds_point.ensures in
+    let inside : is_inside page.contents.viewport c.args.x c.args.y ≡ true = sym told ∙ c.if-not-holds_point.false in
+    let near = rw (x_is, y_is) at c.candidates-count.ensures.near in
+    let count = c.candidates-count.result in
+    let room = c.candidates-count.new.room in
     let after = c.order_topmost_first.new.numbers in
     let moved = c.order_topmost_first.ensures.permutation in
-    let front = front-permutation c.candidates-count.result c.candidates-count.new.room after (drop c.candidates-count.result c.candidates-count.new.room) (omega (arith, c.candidates-count.ensures.fewer, c.candidates-count.ensures.len, c.requires.room)) moved in
-    ap (λ (ns : List ℕ). elements_of page.contents c.args.x c.args.y (items_named page.items ns)) front
-    ∙ elements-topmost_first page.contents c.validity.ensures page.items c.numbering.ensures c.args.forest.now c.requires.forest c.args.root c.requires.root c.args.x c.args.y after
-    (once-permutation before after moved c.candidates-count.ensures.once)
-    c.order_topmost_first.ensures.sorted
-    (λ n there. all-member (IsNumber page.items) n before c.candidates-count.ensures.numbers (sym (member-permutation n before after moved) ∙ there))
-    (λ n item names admitted. member-permutation n before after moved ∙ c.candidates-count.ensures.all n (item, names))
+    let front : take count _ ≡ after = front-permutation count room after (drop count room) (omega (arith, c.candidates-count.ensures.fewer, c.candidates-count.ensures.len, c.requires.room)) moved in
+    subst (AreTopmostFirst page.contents page.items c.args.x c.args.y c.in_ok-root.root) (sym front)
+    (ordered-topmost_first page.contents c.validity.ensures page.items c.numbering.ensures c.args.x c.args.y c.args.forest.now c.requires.forest c.in_ok-root.root (sym c.in_ok-root.ensures.root) inside
+    (take count room) after near c.candidates-count.ensures.once c.candidates-count.ensures.numbers moved c.order_topmost_first.ensures.sorted)
 
-pub returns-clause-numbers : goal.returns-clause-numbers
-returns-clause-numbers g c =
-    let page = c.args.page.now in
-    let before = take c.candidates-count.result c.candidates-count.new.room in
-    let after = c.order_topmost_first.new.numbers in
-    let front = front-permutation c.candidates-count.result c.candidates-count.new.room after (drop c.candidates-count.result c.candidates-count.new.room) (omega (arith, c.candidates-count.ensures.fewer, c.candidates-count.ensures.len, c.requires.room)) c.order_topmost_first.ensures.permutation in
-    subst (All (IsNumber page.items)) (sym front) (All-permutation (IsNumber page.items) before after c.order_topmost_first.ensures.permutation c.candidates-count.ensures.numbers)
+pub returns-clause-none : goal.returns-clause-none
+returns-clause-none g c =
+    let page = c.args.page.now.contents in
+    let x_is : to_z w64 (of_z w64 c.args.x) ≡ c.args.x = omega (arith, ints) in
+    let y_is : to_z w64 (of_z w64 c.args.y) ≡ c.args.y = omega (arith, ints) in
+    let told = rw (x_is, y_is, c.viewport.ensures) at c.holds_point.ensures in
+    let inside : is_inside page.viewport c.args.x c.args.y ≡ true = sym told ∙ c.if-not-holds_point.false in
+    let rooted : c.in_ok-root.root ∷ [] ≡ roots_of page.tree = c.in_ok-root.ensures.root in (
+      λ none. absurd (false≢true (sym none)),
+      λ none. elim none [
+        | inl outside ↦ absurd (false≢true (sym outside ∙ inside))
+        | inr bare ↦ let both : c.in_ok-root.root ∷ [] ≡ [] = rooted ∙ bare in absurd cc
+      ],
+    )

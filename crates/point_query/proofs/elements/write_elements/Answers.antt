@@ -1,38 +1,54 @@
 -- The elements of the layer that are kept, and then the root.
-use Rattle.std.proofs.Common.{◌≡◌, [], true, Bool, if◌then◌else◌, ap, sym, subst, ◌∙◌, arith}
+use Rattle.std.proofs.Common.{◌≡◌, take, ap, sym, ◌∙◌, arith}
 use Rattle.std.proofs.lemmas.Int.{ints}
+use Rattle.std.proofs.lemmas.List.{length-take-le}
 use mir.Syntax.{w64}
 use mir.Val.{to_z, of_z}
-use Rattle.box_tree.specs.Forest.{roots_of}
-use Rattle.box_tree.specs.Contents.{IsViewport}
 use Rattle.point_query.proofs.InsideLemmas.{x-within, y-within}
-use Rattle.point_query.specs.Elements.{is_inside, elements_with, each_once, then_root}
+use Rattle.point_query.proofs.QueryLemmas.{near-bound, near-length, least-bound, elements-within}
+use Rattle.point_query.specs.Elements.{each_once, then_root}
 use Rattle.point_query.proofs.elements.write_elements.Goals as goal
-
-pub topmost_first-count-requires-clause-root : goal.topmost_first-count-requires-clause-root
-topmost_first-count-requires-clause-root g c = sym c.in-Some.ensures.root
 
 pub keep_admitted-kept-requires-clause-x : goal.keep_admitted-kept-requires-clause-x
 keep_admitted-kept-requires-clause-x g c =
-    let viewport = c.viewport-viewport.result in
-    let is_viewport : IsViewport viewport = subst IsViewport (sym c.viewport-viewport.ensures) c.validity.ensures.viewport in
-    x-within viewport (to_z w64 (of_z w64 c.args.x)) (to_z w64 (of_z w64 c.args.y)) is_viewport (sym c.holds_point.ensures ∙ c.if-not-holds_point.false)
+    let found = c.in-Some.ensures.found in
+    x-within c.args.page.now.contents.viewport (to_z w64 (of_z w64 c.args.x)) (to_z w64 (of_z w64 c.args.y)) c.validity.ensures.viewport found.inside
 
 pub keep_admitted-kept-requires-clause-y : goal.keep_admitted-kept-requires-clause-y
 keep_admitted-kept-requires-clause-y g c =
-    let viewport = c.viewport-viewport.result in
-    let is_viewport : IsViewport viewport = subst IsViewport (sym c.viewport-viewport.ensures) c.validity.ensures.viewport in
-    y-within viewport (to_z w64 (of_z w64 c.args.x)) (to_z w64 (of_z w64 c.args.y)) is_viewport (sym c.holds_point.ensures ∙ c.if-not-holds_point.false)
+    let found = c.in-Some.ensures.found in
+    y-within c.args.page.now.contents.viewport (to_z w64 (of_z w64 c.args.x)) (to_z w64 (of_z w64 c.args.y)) c.validity.ensures.viewport found.inside
 
 pub returns-clause-elements : goal.returns-clause-elements
 returns-clause-elements g c =
     let page = c.args.page.now.contents in
     let x_is : to_z w64 (of_z w64 c.args.x) ≡ c.args.x = omega (arith, ints) in
     let y_is : to_z w64 (of_z w64 c.args.y) ≡ c.args.y = omega (arith, ints) in
-    let told = rw (x_is, y_is, c.viewport-viewport.ensures) at c.holds_point.ensures in
-    let inside : is_inside page.viewport c.args.x c.args.y ≡ true = sym told ∙ c.if-not-holds_point.false in
+    let found = rw (x_is, y_is) at c.in-Some.ensures.found in
     let kept = rw (x_is, y_is) at c.keep_admitted-kept.ensures.elements in
-    let ordered = rw (x_is, y_is) at c.topmost_first-count.ensures.elements in
-    c.end_with.ensures.ids
-    ∙ ap (then_root c.in-Some.root) (kept ∙ ap each_once ordered)
-    ∙ sym (ap (λ (b : Bool). if b then elements_with page c.args.x c.args.y (roots_of page.tree) else []) inside ∙ ap (elements_with page c.args.x c.args.y) (sym c.in-Some.ensures.root))
+    c.end_with.ensures.ids ∙ ap (then_root c.in-Some.found.root) (kept ∙ ap each_once found.elements) ∙ sym (elements-within page c.args.x c.args.y c.in-Some.found.root found.inside found.rooted)
+
+pub returns-in_default-clause-most : goal.returns-in_default-clause-most
+returns-in_default-clause-most g c =
+    let page = c.args.page.now.contents in
+    let x_is : to_z w64 (of_z w64 c.args.x) ≡ c.args.x = omega (arith, ints) in
+    let y_is : to_z w64 (of_z w64 c.args.y) ≡ c.args.y = omega (arith, ints) in
+    let taken = rw (x_is, y_is) at c.topmost_first.ensures.inside in
+    λ inside. omega (arith, taken inside, least-bound page c.args.x c.args.y)
+
+pub returns-clause-most : goal.returns-clause-most
+returns-clause-most g c =
+    let page = c.args.page.now in
+    let x_is : to_z w64 (of_z w64 c.args.x) ≡ c.args.x = omega (arith, ints) in
+    let y_is : to_z w64 (of_z w64 c.args.y) ≡ c.args.y = omega (arith, ints) in
+    let found = rw (x_is, y_is) at c.in-Some.ensures.found in
+    let taken = rw (x_is, y_is) at c.topmost_first.ensures.inside in
+    let numbers = take c.in-Some.found.count c.topmost_first.new.room in
+    λ inside. omega (
+      arith,
+      taken inside,
+      c.keep_admitted-kept.ensures.cost,
+      near-bound page.contents c.validity.ensures page.items c.numbering.ensures c.args.x c.args.y numbers found.near,
+      near-length page.contents page.items c.args.x c.args.y numbers found.near,
+      length-take-le c.in-Some.found.count c.topmost_first.new.room (omega (arith, c.in-Some.ensures.fewer, c.topmost_first.ensures.len, c.requires.room)),
+    )
