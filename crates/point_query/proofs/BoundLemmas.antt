@@ -1,4 +1,4 @@
--- How many steps items take: the containing blocks of a node are fewer than it is deep, and a list of items takes what each of
+-- How many steps items take: the containing blocks of a node are no more than it is deep, and a list of items takes what each of
 -- them takes.
 use Rattle.std.proofs.Common.{◌≡◌, ℕ, ◌+◌, ◌≤◌, ◌<◌, List, [], ◌∷◌, ◌++◌, length, take, drop, get_or, Option, Some, None, Bool, true, false, if◌then◌else◌, sym, ap, ◌∙◌, arith}
 use Rattle.std.specs.Option.{option_map_or}
@@ -27,7 +27,7 @@ holders-above wanted (n ∷ above) = by_test (may_hold wanted (parent_of above) 
     by_test true further nearer = omega (arith, further)
     by_test false further nearer = omega (arith, nearer)
 
--- the containing blocks of a node are fewer than its depth
+-- the containing blocks of a node are no more than its depth
 pub holders-depth : (page : Contents) (id : ℕ) → length (holders_of page id) ≤ depth_of page id
 holders-depth page id = by_place (placed_of page id)
   where
