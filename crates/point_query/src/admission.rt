@@ -35,6 +35,7 @@ pub(crate) fn admitted_element<L: Ledger>(
     requires y { IsWithin 20 y }
     ensures element { option_to_list result ≡ elements_of page.now.contents x y (item ∷ []) }
     ensures cost { steps.new + 2 ≤ steps.old + member_bound page.now.contents item }
+    ensures counts { steps.old ≤ steps.new }
 {
     if !page.has(item.node) {
         return None;

@@ -26,6 +26,7 @@ pub(crate) fn element_of<L: Ledger>(
     requires { HasCurvesInRange (label_of node.now) }
     ensures element { result ≡ element_as node.now.kind node.now.parent node.now.id (area_at page.now.contents (label_of node.now) at) }
     ensures cost { steps.new ≤ steps.old + areas_named page.now.contents node.now.form }
+    ensures counts { steps.old ≤ steps.new }
 {
     match node.kind {
         Kind::Image => area_at(page, node, at, steps).unwrap_or(node.id),
@@ -47,6 +48,7 @@ fn area_at<L: Ledger>(page: &Page, node: &Node, at: FinePoint, steps: &mut Steps
     requires { HasCurvesInRange (label_of node.now) }
     ensures area { result ≡ area_at page.now.contents (label_of node.now) at }
     ensures cost { steps.new ≤ steps.old + areas_named page.now.contents node.now.form }
+    ensures counts { steps.old ≤ steps.new }
 {
     let piece = node.boxes.as_slice().first()?;
     let map = map_named(&node.form)?;
@@ -76,6 +78,7 @@ fn area_in<L: Ledger>(
     requires piece { IsBoxInRange piece.now }
     ensures area { result ≡ area_in page.now.contents (label_of node.now) piece.now map at }
     ensures cost { steps.new ≤ steps.old + length (roots_of (areas_of page.now.contents map)) }
+    ensures counts { steps.old ≤ steps.new }
 {
     if !padding_curve(node, piece).holds(at.x, at.y) {
         return None;

@@ -23,7 +23,8 @@ use tree_edits::Engine;
 ///
 /// Empty outside the viewport and without a root. They are written into the room, whatever that holds; it takes no memory. Inside
 /// the viewport it takes at most ten steps and, for each item near the point, twelve, four for each level of the depth of its
-/// node, and one for each area of the map that its node names; outside the viewport it takes none.
+/// node, and one for each area of the map that its node names, and at least ten and one for each of these items; outside the
+/// viewport it takes none.
 pub fn hit<'a, L: Ledger>(
     engine: &Engine,
     room: &'a mut [u32],
@@ -36,6 +37,7 @@ pub fn hit<'a, L: Ledger>(
     requires room { item_count engine.now.contents.tree + 256 ≤ length room.old }
     ensures elements { result.now ≡ elements_from_point engine.now.contents x y }
     ensures most { IsTrue (is_inside engine.now.contents.viewport x y) → steps.new ≤ steps.old + query_bound engine.now.contents x y }
+    ensures least { IsTrue (is_inside engine.now.contents.viewport x y) → steps.old + query_least engine.now.contents x y ≤ steps.new }
     ensures outside { IsFalse (is_inside engine.now.contents.viewport x y) → steps.new ≡ steps.old }
 {
     let count = write_elements(
@@ -68,6 +70,7 @@ pub fn top<L: Ledger>(
     ensures first { result ≡ element_from_point engine.now.contents x y }
     ensures none { IsNone result ↔ ((is_inside engine.now.contents.viewport x y ≡ false) ⊎ (roots_of engine.now.contents.tree ≡ [])) }
     ensures most { IsTrue (is_inside engine.now.contents.viewport x y) → steps.new ≤ steps.old + query_bound engine.now.contents x y }
+    ensures least { IsTrue (is_inside engine.now.contents.viewport x y) → steps.old + query_least engine.now.contents x y ≤ steps.new }
     ensures outside { IsFalse (is_inside engine.now.contents.viewport x y) → steps.new ≡ steps.old }
 {
     topmost_element(
@@ -100,6 +103,7 @@ fn write_elements<L: Ledger>(
     ensures elements { take result room.new ≡ elements_from_point page.now.contents x y }
     ensures within { result ≤ length room.new }
     ensures most { IsTrue (is_inside page.now.contents.viewport x y) → steps.new ≤ steps.old + query_bound page.now.contents x y }
+    ensures least { IsTrue (is_inside page.now.contents.viewport x y) → steps.old + query_least page.now.contents x y ≤ steps.new }
     ensures outside { IsFalse (is_inside page.now.contents.viewport x y) → steps.new ≡ steps.old }
 {
     let Some(found) = topmost_first(page, forest, grid, room, x, y, steps) else {
@@ -129,6 +133,7 @@ fn topmost_element<L: Ledger>(
     ensures first { result ≡ element_from_point page.now.contents x y }
     ensures none { IsNone result ↔ ((is_inside page.now.contents.viewport x y ≡ false) ⊎ (roots_of page.now.contents.tree ≡ [])) }
     ensures most { IsTrue (is_inside page.now.contents.viewport x y) → steps.new ≤ steps.old + query_bound page.now.contents x y }
+    ensures least { IsTrue (is_inside page.now.contents.viewport x y) → steps.old + query_least page.now.contents x y ≤ steps.new }
     ensures outside { IsFalse (is_inside page.now.contents.viewport x y) → steps.new ≡ steps.old }
 {
     let found = topmost_first(page, forest, grid, room, x, y, steps)?;

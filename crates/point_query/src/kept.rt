@@ -31,6 +31,7 @@ pub(crate) fn keep_admitted<L: Ledger>(
     requires numbers { All (IsNumber page.now.items) (take count room.old) }
     ensures elements { take result room.new ≡ each_once (elements_of page.now.contents x y (items_named page.now.items (take count room.old))) }
     ensures cost { steps.new + count ≤ steps.old + sum_by (member_bound page.now.contents) (items_named page.now.items (take count room.old)) }
+    ensures counts { steps.old ≤ steps.new }
     ensures len { length room.new ≡ length room.old }
     ensures fewer { result ≤ count }
 {
@@ -77,6 +78,7 @@ pub(crate) fn first_admitted<L: Ledger>(
     requires numbers { All (IsNumber page.now.items) numbers.now }
     ensures first { result ≡ slice_get (elements_of page.now.contents x y (items_named page.now.items numbers.now)) 0 }
     ensures cost { steps.new + length numbers.now ≤ steps.old + sum_by (member_bound page.now.contents) (items_named page.now.items numbers.now) }
+    ensures counts { steps.old ≤ steps.new }
 {
     for number in numbers {
         let item = page.item(*number, steps);

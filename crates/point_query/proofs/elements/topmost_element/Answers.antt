@@ -57,3 +57,17 @@ returns-clause-most g c =
       near-bound page.contents c.validity.ensures page.items c.numbering.ensures c.args.x c.args.y numbers found.near,
       near-length page.contents page.items c.args.x c.args.y numbers found.near,
     )
+
+pub returns-in_err-found-clause-least : goal.returns-in_err-found-clause-least
+returns-in_err-found-clause-least g c =
+    let x_is : to_z w64 (of_z w64 c.args.x) ≡ c.args.x = omega (arith, ints) in
+    let y_is : to_z w64 (of_z w64 c.args.y) ≡ c.args.y = omega (arith, ints) in
+    let taken = rw (x_is, y_is) at c.topmost_first.ensures.inside in
+    λ inside. omega (arith, taken inside)
+
+pub returns-clause-least : goal.returns-clause-least
+returns-clause-least g c =
+    let x_is : to_z w64 (of_z w64 c.args.x) ≡ c.args.x = omega (arith, ints) in
+    let y_is : to_z w64 (of_z w64 c.args.y) ≡ c.args.y = omega (arith, ints) in
+    let taken = rw (x_is, y_is) at c.topmost_first.ensures.inside in
+    λ inside. omega (arith, taken inside, c.first_admitted-first.ensures.counts)

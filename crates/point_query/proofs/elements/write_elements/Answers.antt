@@ -52,3 +52,17 @@ returns-clause-most g c =
       near-length page.contents page.items c.args.x c.args.y numbers found.near,
       length-take-le c.in-Some.found.count c.topmost_first.new.room (omega (arith, c.in-Some.ensures.fewer, c.topmost_first.ensures.len, c.requires.room)),
     )
+
+pub returns-in_default-clause-least : goal.returns-in_default-clause-least
+returns-in_default-clause-least g c =
+    let x_is : to_z w64 (of_z w64 c.args.x) ≡ c.args.x = omega (arith, ints) in
+    let y_is : to_z w64 (of_z w64 c.args.y) ≡ c.args.y = omega (arith, ints) in
+    let taken = rw (x_is, y_is) at c.topmost_first.ensures.inside in
+    λ inside. omega (arith, taken inside)
+
+pub returns-clause-least : goal.returns-clause-least
+returns-clause-least g c =
+    let x_is : to_z w64 (of_z w64 c.args.x) ≡ c.args.x = omega (arith, ints) in
+    let y_is : to_z w64 (of_z w64 c.args.y) ≡ c.args.y = omega (arith, ints) in
+    let taken = rw (x_is, y_is) at c.topmost_first.ensures.inside in
+    λ inside. omega (arith, taken inside, c.keep_admitted-kept.ensures.counts)

@@ -15,6 +15,7 @@ loop-number-preserved g c =
     record {
       none = elements-none page.contents (to_z w64 (of_z w64 c.args.x)) (to_z w64 (of_z w64 c.args.y)) page.items c.args.numbers.now l.number-index c.item-item.result (omega arith) c.item-item.ensures.item c.admitted_element-element.result l.invariant.none c.admitted_element-element.ensures.element (sym c.if-is_some.ensures);
       taken = omega (arith, more, l.invariant.taken, c.item-item.ensures.step, c.admitted_element-element.ensures.cost);
+      counts = omega (arith, l.invariant.counts, c.item-item.ensures.step, c.admitted_element-element.ensures.counts);
     }
 
 pub returns-then-is_some-clause-first : goal.returns-then-is_some-clause-first

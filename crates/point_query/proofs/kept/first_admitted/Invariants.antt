@@ -10,4 +10,5 @@ abbrev pub invariant-loop-number : goal.invariant-loop-number
 invariant-loop-number g l = record {
   none : elements_of l.page.contents l.x l.y (items_named l.page.items (take l.number-index l.numbers)) ≡ [];
   taken : l.steps + l.number-index ≤ l.initial.steps + sum_by (member_bound l.page.contents) (items_named l.page.items (take l.number-index l.numbers));
+  counts : l.initial.steps ≤ l.steps;
 }

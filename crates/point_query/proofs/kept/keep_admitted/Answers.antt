@@ -16,6 +16,7 @@ loop-at-init g c = record {
   kept_is = refl;
   fewer = omega arith;
   taken = omega arith;
+  counts = omega arith;
   rest = λ k d below. refl;
 }
 
@@ -48,6 +49,7 @@ loop-at-preserved g c =
           ∙ ap each_once (sym more);
       fewer = omega (arith, w.ensures.more.1, l.invariant.fewer);
       taken = omega (arith, steps-more page.contents page.items room l.at c.item-item.result (omega arith) names, l.invariant.taken, c.item-item.ensures.step, c.admitted_element-element.ensures.cost);
+      counts = omega (arith, l.invariant.counts, c.item-item.ensures.step, c.admitted_element-element.ensures.counts);
       rest = λ k d below. w.ensures.rest k d (omega (arith, below, l.invariant.fewer)) ∙ l.invariant.rest k d (omega (arith, below));
     }
 

@@ -12,5 +12,6 @@ invariant-loop-at g l = record {
   kept_is : take l.kept l.room ≡ each_once (elements_of l.page.contents l.x l.y (items_named l.page.items (take l.at l.initial.room)));
   fewer : l.kept ≤ l.at;
   taken : l.steps + l.at ≤ l.initial.steps + sum_by (member_bound l.page.contents) (items_named l.page.items (take l.at l.initial.room));
+  counts : l.initial.steps ≤ l.steps;
   rest : (k d : ℕ) → l.at ≤ k → get_or l.room k d ≡ get_or l.initial.room k d;
 }
