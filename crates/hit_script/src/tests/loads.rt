@@ -137,7 +137,7 @@ fn summary_by_walk(alloc: Global, count: i64) -> Result<String, AllocError> {
 #[test]
 fn summaries_are_those_of_a_plain_walk(rt: HostRuntime) -> Result<(), Fail> {
     let alloc = rt.alloc();
-    for count in [1, 2, 99, 100, 101, 200] {
+    for count in [1, 2, 99, 100, 101, 200, 20_000] {
         let number = format!(in alloc; "{count}")?;
         let summary = summary_by_walk(alloc, count)?;
         assert_words(
