@@ -1,5 +1,5 @@
 -- Numbers that stand once are no more than the list has members that they are all of, and an order changes nothing of that.
-use Rattle.std.proofs.Common.{◌≡◌, ℕ, suc, ◌+◌, ◌<◌, ◌≤◌, ◌==◌, List, [], ◌∷◌, ◌++◌, length, take, get_or, Bool, true, false, not, cond, if◌then◌else◌, refl, sym, ap, subst, ◌∙◌, arith}
+use Rattle.std.proofs.Common.{◌≡◌, ℕ, suc, ◌+◌, ◌<◌, ◌≤◌, ◌==◌, List, [], ◌∷◌, ◌++◌, length, take, drop, get_or, Bool, true, false, not, cond, if◌then◌else◌, refl, sym, ap, subst, ◌∙◌, arith}
 use Rattle.std.specs.Prelude.{◌&&◌, ◌||◌, All}
 use Rattle.std.specs.List.{filter, sum_by}
 use Rattle.std.proofs.lemmas.Bool.{false≢true}
@@ -105,3 +105,14 @@ pub front-permutation : (n : ℕ) (xs ys rest : List ℕ) → n ≤ length xs �
 front-permutation n xs ys rest within moved =
     let len : length ys ≡ n = length_permutation (take n xs) ys moved ∙ length-take-le n xs within in
     take-append-le n ys rest (omega (arith, len)) ∙ take_all n ys (omega (arith, len))
+
+-- numbers of which some are kept at the front, and these put in another order there
+module _ (p : ℕ → Bool) (count : ℕ) (numbers kept rest after : List ℕ) (long : length kept ≡ length numbers) (within : count ≤ length numbers) (held : take count kept ≡ filter p numbers) (moved : IsPermutation (take count (kept ++ rest)) after) where
+  pub held-front : take count (after ++ drop count (kept ++ rest)) ≡ after
+  held-front = front-permutation count (kept ++ rest) after (drop count (kept ++ rest)) (omega (arith, length-append kept rest, long, within)) moved
+
+  pub held-moved : IsPermutation (filter p numbers) after
+  held-moved = subst (λ (ns : List ℕ). IsPermutation ns after) (take-append-le count kept rest (omega (arith, long, within)) ∙ held) moved
+
+  pub held-count : length after ≡ count
+  held-count = length_permutation (take count (kept ++ rest)) after moved ∙ length-take-le count (kept ++ rest) (omega (arith, length-append kept rest, long, within))

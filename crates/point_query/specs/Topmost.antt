@@ -1,6 +1,5 @@
 -- Items by their numbers, topmost first, as a forest of lists orders them.
 use Rattle.std.specs.Prelude.{◌≡◌, ◌≤◌, ℕ, ℤ, ◌+◌, ◌==◌, nat_lt, List, [], ◌∷◌, Bool, IsTrue, Option, None, Some, All, map, reverse, slice_index_or, if◌then◌else◌}
-use Rattle.std.specs.List.Sorted.{IsPermutation}
 use Rattle.box_tree.specs.declared.item.Item.{Item}
 use Rattle.box_tree.specs.declared.item.Part.TheVariants.{Box}
 use Rattle.box_tree.specs.Contents.{Contents}
@@ -9,11 +8,9 @@ use Rattle.box_tree.specs.Numbers.{ItemsState, IsNumber}
 use Rattle.box_tree.specs.Planned.{times_in}
 use Rattle.paint_order.specs.Order.{flattened, is_member, IsWhole, NestWithin}
 use Rattle.paint_order.specs.State.{State}
-use Rattle.stacking.specs.Lists.{number_of}
 use Rattle.stacking.specs.OnPage.{of_node}
 use Rattle.stacking.specs.Painting.{layer}
 use Rattle.point_query.specs.Elements.{is_inside, elements_of}
-use Rattle.point_query.specs.Near.{near_items}
 
 -- the place of a number in a list, from 0 on; the length where it isn't there
 abbrev pub place_in : List ℕ → ℕ → ℕ
@@ -50,11 +47,10 @@ abbrev pub if_new : List ℕ → Option ℕ → List ℕ
 if_new ids None = []
 if_new ids (Some id) = if is_member id ids then [] else id ∷ []
 
--- numbers are those of the items near a point inside the viewport, on a page with this root, and the elements of these items are
--- those of the layer of the root from top to bottom
+-- numbers are those of items, for a point inside the viewport of a page with this root, and the elements of these items are those
+-- of the layer of the root from top to bottom
 pub record AreTopmostFirst (page : Contents) (s : ItemsState) (x y : ℤ) (root : ℕ) (numbers : List ℕ) : Type 0 where
   pub inside : IsTrue (is_inside page.viewport x y)
   pub rooted : roots_of page.tree ≡ root ∷ []
   pub items : All (IsNumber s) numbers
-  pub near : IsPermutation (map (number_of s) (near_items page x y)) numbers
   pub elements : elements_of page x y (items_named s numbers) ≡ elements_of page x y (reverse (of_node layer page root))

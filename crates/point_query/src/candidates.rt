@@ -1,5 +1,7 @@
-// The items that may be admitted at a point, by their numbers: those that stand in the cells of the point.
+// The items that may be admitted at a point, by their numbers: those that stand in the cells of the point, and of these the ones
+// whose bounds hold it.
 ghost use Rattle.std.specs.Prelude.{◌≡◌, ◌+◌, ◌≤◌, ◌++◌, IsTrue, All, length, map, take};
+ghost use Rattle.std.specs.List.{filter};
 ghost use Rattle.std.specs.List.Sorted.{IsPermutation};
 ghost use Rattle.box_tree.specs.Items.{item_count};
 ghost use Rattle.box_tree.specs.Numbers.{IsNumber};
@@ -7,11 +9,11 @@ ghost use Rattle.stacking.specs.Lists.{number_of};
 ghost use Rattle.tree_edits.specs.Cells.{IsGridOf};
 ghost use Rattle.point_query.specs.Bound.{query_least};
 ghost use Rattle.point_query.specs.Elements.{is_inside};
-ghost use Rattle.point_query.specs.Near.{near_items};
+ghost use Rattle.point_query.specs.Near.{near_items, is_held};
 ghost use Rattle.point_query.specs.Topmost.{StandOnce};
 
 use box_tree::Page;
-use fractions::{Ledger, Steps};
+use fractions::{Ledger, Rect, Steps};
 use spatial_index::Grid;
 
 // How many levels a grid has.
@@ -62,4 +64,31 @@ fn append<L: Ledger>(room: &mut [u32], count: usize, numbers: &[u32], steps: &mu
         steps.tick();
     }
     end
+}
+
+// Keeps those of some numbers whose bounds hold a point at the front, in their order, and answers how many they are.
+pub(crate) fn keep_held(bounds: &[Rect], numbers: &mut [u32], x: i64, y: i64) -> usize
+    ensures held { take result numbers.new ≡ filter (is_held bounds.now x y) numbers.old }
+    ensures fewer { result ≤ length numbers.old }
+    ensures len { length numbers.new ≡ length numbers.old }
+{
+    let mut kept = 0;
+    for at in 0..numbers.len() {
+        let number = numbers[at];
+        if is_held(bounds, number, x, y) {
+            numbers[kept] = number;
+            kept += 1;
+        }
+    }
+    kept
+}
+
+// Whether the bounds under a number hold a point.
+fn is_held(bounds: &[Rect], number: u32, x: i64, y: i64) -> bool
+    ensures { result ≡ is_held bounds.now x y number }
+{
+    match bounds.get(number as usize) {
+        Some(rect) => rect.holds(i128::from(x), i128::from(y)),
+        None => false,
+    }
 }

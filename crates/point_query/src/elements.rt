@@ -1,19 +1,21 @@
 ghost use Rattle.std.specs.Prelude.{◌≡◌, ◌↔◌, ◌⊎◌, ◌+◌, ◌≤◌, false, IsNone, IsTrue, IsFalse, IfSome, [], ◌&&◌, int_le, length, take};
+ghost use Rattle.std.specs.List.{sum_by};
 ghost use Rattle.box_tree.specs.Contents.{IsWithin};
 ghost use Rattle.box_tree.specs.Forest.{roots_of};
 ghost use Rattle.box_tree.specs.Items.{item_count};
 ghost use Rattle.spaces.specs.Table.{IsTableOf};
-ghost use Rattle.tree_edits.specs.Cells.{IsGridOf};
+ghost use Rattle.tree_edits.specs.Cells.{IsGridOf, AreBoundsOf};
 ghost use Rattle.tree_edits.specs.Faithful.{IsForestOf};
-ghost use Rattle.point_query.specs.Bound.{query_bound, query_least};
+ghost use Rattle.point_query.specs.Bound.{member_bound, query_bound, query_least};
 ghost use Rattle.point_query.specs.Elements.{elements_from_point, element_from_point, is_inside};
-ghost use Rattle.point_query.specs.Topmost.{AreTopmostFirst};
+ghost use Rattle.point_query.specs.Near.{near_items};
+ghost use Rattle.point_query.specs.Topmost.{AreTopmostFirst, items_named};
 
-use crate::candidates::candidates;
+use crate::candidates::{candidates, keep_held};
 use crate::kept::{end_with, first_admitted, keep_admitted};
 use crate::topmost::order_topmost_first;
 use box_tree::{Page, Viewport};
-use fractions::{Ledger, Steps};
+use fractions::{Ledger, Rect, Steps};
 use paint_order::Forest;
 use spaces::SpaceTable;
 use spatial_index::Grid;
@@ -45,6 +47,7 @@ pub fn hit<'a, L: Ledger>(
         engine.spaces(),
         engine.forest(),
         engine.grid(),
+        engine.bounds(),
         room,
         x,
         y,
@@ -78,6 +81,7 @@ pub fn top<L: Ledger>(
         engine.spaces(),
         engine.forest(),
         engine.grid(),
+        engine.bounds(),
         room,
         x,
         y,
@@ -91,6 +95,7 @@ fn write_elements<L: Ledger>(
     spaces: &SpaceTable,
     forest: &Forest,
     grid: &Grid,
+    bounds: &[Rect],
     room: &mut [u32],
     x: i64,
     y: i64,
@@ -99,6 +104,7 @@ fn write_elements<L: Ledger>(
     requires table { IsTableOf spaces.now page.now.contents }
     requires forest { IsForestOf forest.now page.now.contents page.now.items }
     requires grid { IsGridOf grid.now page.now.contents page.now.items }
+    requires bounds { AreBoundsOf bounds.now page.now.contents page.now.items }
     requires room { item_count page.now.contents.tree + 256 ≤ length room.old }
     ensures elements { take result room.new ≡ elements_from_point page.now.contents x y }
     ensures within { result ≤ length room.new }
@@ -106,7 +112,7 @@ fn write_elements<L: Ledger>(
     ensures least { IsTrue (is_inside page.now.contents.viewport x y) → steps.old + query_least page.now.contents x y ≤ steps.new }
     ensures outside { IsFalse (is_inside page.now.contents.viewport x y) → steps.new ≡ steps.old }
 {
-    let Some(found) = topmost_first(page, forest, grid, room, x, y, steps) else {
+    let Some(found) = topmost_first(page, forest, grid, bounds, room, x, y, steps) else {
         return 0;
     };
     page.validity();
@@ -121,6 +127,7 @@ fn topmost_element<L: Ledger>(
     spaces: &SpaceTable,
     forest: &Forest,
     grid: &Grid,
+    bounds: &[Rect],
     room: &mut [u32],
     x: i64,
     y: i64,
@@ -129,6 +136,7 @@ fn topmost_element<L: Ledger>(
     requires table { IsTableOf spaces.now page.now.contents }
     requires forest { IsForestOf forest.now page.now.contents page.now.items }
     requires grid { IsGridOf grid.now page.now.contents page.now.items }
+    requires bounds { AreBoundsOf bounds.now page.now.contents page.now.items }
     requires room { item_count page.now.contents.tree ≤ length room.old }
     ensures first { result ≡ element_from_point page.now.contents x y }
     ensures none { IsNone result ↔ ((is_inside page.now.contents.viewport x y ≡ false) ⊎ (roots_of page.now.contents.tree ≡ [])) }
@@ -136,26 +144,28 @@ fn topmost_element<L: Ledger>(
     ensures least { IsTrue (is_inside page.now.contents.viewport x y) → steps.old + query_least page.now.contents x y ≤ steps.new }
     ensures outside { IsFalse (is_inside page.now.contents.viewport x y) → steps.new ≡ steps.old }
 {
-    let found = topmost_first(page, forest, grid, room, x, y, steps)?;
+    let found = topmost_first(page, forest, grid, bounds, room, x, y, steps)?;
     page.validity();
     page.numbering();
     let first = first_admitted(page, spaces, &room[..found.count], x, y, steps);
     Some(first.unwrap_or(found.root))
 }
 
-// The root of a page, and how many of its items are near a point.
+// The root of a page, and how many of its items have bounds that hold a point.
 #[derive(Clone, Copy)]
 struct Found {
     root: u32,
     count: usize,
 }
 
-// Writes the numbers of the items near a point of the viewport, the topmost first. None exactly outside the viewport and without
-// a root. The cells of a point inside the viewport are visited also where there is no root.
+// Writes the numbers of the items whose bounds hold a point of the viewport, the topmost first. None exactly outside the viewport
+// and without a root. The cells of a point inside the viewport are visited also where there is no root. All these items together
+// may take as many steps as those near the point but one for each of the others.
 fn topmost_first<L: Ledger>(
     page: &Page,
     forest: &Forest,
     grid: &Grid,
+    bounds: &[Rect],
     room: &mut [u32],
     x: i64,
     y: i64,
@@ -163,7 +173,9 @@ fn topmost_first<L: Ledger>(
 ) -> Option<Found>
     requires forest { IsForestOf forest.now page.now.contents page.now.items }
     requires grid { IsGridOf grid.now page.now.contents page.now.items }
+    requires bounds { AreBoundsOf bounds.now page.now.contents page.now.items }
     requires room { item_count page.now.contents.tree ≤ length room.old }
+    ensures most { IfSome result (λ found. sum_by (member_bound page.now.contents) (items_named page.now.items (take found.count room.new)) + length (near_items page.now.contents x y) ≤ sum_by (member_bound page.now.contents) (near_items page.now.contents x y) + found.count) }
     ensures found { IfSome result (λ found. AreTopmostFirst page.now.contents page.now.items x y found.root (take found.count room.new)) }
     ensures fewer { IfSome result (λ found. found.count ≤ item_count page.now.contents.tree) }
     ensures none { IsNone result ↔ ((is_inside page.now.contents.viewport x y ≡ false) ⊎ (roots_of page.now.contents.tree ≡ [])) }
@@ -176,8 +188,9 @@ fn topmost_first<L: Ledger>(
     }
     page.validity();
     page.numbering();
-    let count = candidates(page, grid, room, x, y, steps);
+    let near = candidates(page, grid, room, x, y, steps);
     let root = page.root()?;
+    let count = keep_held(bounds, &mut room[..near], x, y);
     order_topmost_first(forest, &mut room[..count]);
     Some(Found { root, count })
 }

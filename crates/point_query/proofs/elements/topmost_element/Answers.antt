@@ -1,14 +1,15 @@
 -- The first element of the layer, or the root.
-use Rattle.std.proofs.Common.{◌≡◌, ℕ, List, reverse, take, Option, Some, ap, sym, ◌∙◌, arith}
+use Rattle.std.proofs.Common.{◌≡◌, ℕ, List, length, reverse, take, Option, Some, ap, sym, ◌∙◌, arith}
 use Rattle.std.specs.Prelude.{unwrap_or, slice_get}
 use Rattle.std.proofs.lemmas.Int.{ints}
+use Rattle.std.proofs.lemmas.List.{length-take-le}
 use mir.Syntax.{w64}
 use mir.Val.{to_z, of_z}
 use Rattle.stacking.specs.OnPage.{of_node}
 use Rattle.stacking.specs.Painting.{layer}
 use Rattle.point_query.proofs.InsideLemmas.{x-within, y-within}
 use Rattle.point_query.proofs.KeptLemmas.{first-then_root}
-use Rattle.point_query.proofs.QueryLemmas.{near-bound, near-length, least-bound, elements-within}
+use Rattle.point_query.proofs.QueryLemmas.{least-bound, elements-within}
 use Rattle.point_query.specs.Elements.{elements_of}
 use Rattle.point_query.proofs.elements.topmost_element.Goals as goal
 
@@ -44,19 +45,12 @@ returns-in_err-found-clause-most g c =
 
 pub returns-clause-most : goal.returns-clause-most
 returns-clause-most g c =
-    let page = c.args.page.now in
     let x_is : to_z w64 (of_z w64 c.args.x) ≡ c.args.x = omega (arith, ints) in
     let y_is : to_z w64 (of_z w64 c.args.y) ≡ c.args.y = omega (arith, ints) in
-    let found = rw (x_is, y_is) at c.in_ok-found.ensures.found in
+    let held = rw (x_is, y_is) at c.in_ok-found.ensures.most in
     let taken = rw (x_is, y_is) at c.topmost_first.ensures.inside in
-    let numbers = take c.in_ok-found.found.count c.topmost_first.new.room in
-    λ inside. omega (
-      arith,
-      taken inside,
-      c.first_admitted-first.ensures.cost,
-      near-bound page.contents c.validity.ensures page.items c.numbering.ensures c.args.x c.args.y numbers found.near,
-      near-length page.contents page.items c.args.x c.args.y numbers found.near,
-    )
+    let count : length (take c.in_ok-found.found.count c.topmost_first.new.room) ≡ c.in_ok-found.found.count = length-take-le c.in_ok-found.found.count c.topmost_first.new.room (omega (arith, c.in_ok-found.ensures.fewer, c.topmost_first.ensures.len, c.requires.room)) in
+    λ inside. omega (arith, taken inside, held, count, c.first_admitted-first.ensures.cost)
 
 pub returns-in_err-found-clause-least : goal.returns-in_err-found-clause-least
 returns-in_err-found-clause-least g c =

@@ -1,11 +1,10 @@
 -- The elements of the layer that are kept, and then the root.
-use Rattle.std.proofs.Common.{◌≡◌, take, ap, sym, ◌∙◌, arith}
+use Rattle.std.proofs.Common.{◌≡◌, ap, sym, ◌∙◌, arith}
 use Rattle.std.proofs.lemmas.Int.{ints}
-use Rattle.std.proofs.lemmas.List.{length-take-le}
 use mir.Syntax.{w64}
 use mir.Val.{to_z, of_z}
 use Rattle.point_query.proofs.InsideLemmas.{x-within, y-within}
-use Rattle.point_query.proofs.QueryLemmas.{near-bound, near-length, least-bound, elements-within}
+use Rattle.point_query.proofs.QueryLemmas.{least-bound, elements-within}
 use Rattle.point_query.specs.Elements.{each_once, then_root}
 use Rattle.point_query.proofs.elements.write_elements.Goals as goal
 
@@ -38,20 +37,11 @@ returns-in_default-clause-most g c =
 
 pub returns-clause-most : goal.returns-clause-most
 returns-clause-most g c =
-    let page = c.args.page.now in
     let x_is : to_z w64 (of_z w64 c.args.x) ≡ c.args.x = omega (arith, ints) in
     let y_is : to_z w64 (of_z w64 c.args.y) ≡ c.args.y = omega (arith, ints) in
-    let found = rw (x_is, y_is) at c.in-Some.ensures.found in
+    let held = rw (x_is, y_is) at c.in-Some.ensures.most in
     let taken = rw (x_is, y_is) at c.topmost_first.ensures.inside in
-    let numbers = take c.in-Some.found.count c.topmost_first.new.room in
-    λ inside. omega (
-      arith,
-      taken inside,
-      c.keep_admitted-kept.ensures.cost,
-      near-bound page.contents c.validity.ensures page.items c.numbering.ensures c.args.x c.args.y numbers found.near,
-      near-length page.contents page.items c.args.x c.args.y numbers found.near,
-      length-take-le c.in-Some.found.count c.topmost_first.new.room (omega (arith, c.in-Some.ensures.fewer, c.topmost_first.ensures.len, c.requires.room)),
-    )
+    λ inside. omega (arith, taken inside, held, c.keep_admitted-kept.ensures.cost)
 
 pub returns-in_default-clause-least : goal.returns-in_default-clause-least
 returns-in_default-clause-least g c =
