@@ -14,10 +14,9 @@ use Rattle.box_tree.specs.Edited.{edited}
 use Rattle.box_tree.specs.Numbers.{ItemsState, Names, IsNumber, IsNumberedPage, KeepsNumbers, HasSameItems}
 use Rattle.spaces.specs.Table.{renewed_node}
 use Rattle.tree_edits.specs.declared.reach.Reach.{Reach}
-use Rattle.spatial_index.specs.Cells.{Region, IsCell, IsEmptyOrInside, is_met}
+use Rattle.spatial_index.specs.Cells.{Region, IsEmptyOrInside, is_met}
 use Rattle.spatial_index.specs.declared.change.Change.{Change}
-use Rattle.spatial_index.specs.Contents.{GridState, StandsNowhere, AreOfDistinctItems, AreOfOthers, once_if, times}
-use Rattle.spatial_index.specs.Moves.{KeepsItems}
+use Rattle.spatial_index.specs.Contents.{GridState, StandsNowhere, AreOfDistinctItems, AreOfOthers}
 use Rattle.tree_edits.specs.Cells.{region_of, rect_under, AreBoundsOf, IsGridBy}
 use Rattle.tree_edits.specs.Changes.{AreGone, behind, changes_of, gives_sides, gone_numbers, placed_by}
 use Rattle.tree_edits.specs.Committed.{IsCommitted}
@@ -33,16 +32,6 @@ unfolding is_met
 grid-empty grid nowhere = record {
   stands = λ number. nowhere number;
   inside = λ number. inl (inl (omega (arith, ints)));
-}
-
--- cells and bounds that stay
-pub grid-kept : (old new : GridState) (bounds after : List Rect) → KeepsItems old new → ((number : ℕ) → rect_under after number ≡ rect_under bounds number) → IsGridBy old bounds → IsGridBy new after
-grid-kept old new bounds after keeps same by = record {
-  stands = λ number level column row cell.
-      let cell' : IsCell old.region level column row = subst (λ (r : Region). IsCell r level column row) keeps.region cell in
-      ap (times number) (keeps.items level column row cell') ∙ by.stands number level column row cell'
-      ∙ ap (λ (r : Rect). once_if (is_met r level column row)) (sym (same number));
-  inside = λ number. subst (λ (r : Region). IsEmptyOrInside r (rect_under after number)) (sym keeps.region) (subst (IsEmptyOrInside old.region) (sym (same number)) (by.inside number));
 }
 
 -- ---- the items of a page

@@ -1,8 +1,8 @@
 -- A forest of the page before an edit, with the new lists, has all that the exchange asks.
 use Rattle.std.proofs.Common.{◌≡◌, ◌≢◌, ◌⊎◌, ℕ, ◌<◌, ◌≤◌, ◌==◌, List, [], ◌∷◌, Option, Some, None, is_some, Bool, true, false, if◌then◌else◌, refl, sym, ap, ◌∙◌, subst, inl, inr, arith, zero, suc}
-use Rattle.std.specs.Prelude.{◌&&◌, not, unwrap_or, ℤ}
+use Rattle.std.specs.Prelude.{◌&&◌, unwrap_or, ℤ}
 use Rattle.std.specs.List.{AllByRecursion}
-use Rattle.std.specs.Option.{option_or, option_to_list}
+use Rattle.std.specs.Option.{option_or}
 use Rattle.std.proofs.lemmas.Bool.{false≢true}
 use Rattle.std.proofs.lemmas.Bool.Decides.{nat_tests}
 use Rattle.box_tree.specs.declared.edit.Edit.{Edit}
@@ -125,13 +125,6 @@ forest-kept old new page items items' kept same root same_items = record {
   root = root ∙ kept.root;
   lists = λ id. same id ∙ kept.lists id ∙ ap (λ (list : List Entry). if makes_context page id then Some list else (if is_bare (roots_of page.tree) && (id == 0) then Some [] else None)) (sym (same-list items items' page id same_items));
 }
-
--- whether a page has no tree, by its root
-pub none-bare : (none : Bool) (root : Option ℕ) → not none ≡ is_some root → none ≡ is_bare (option_to_list root)
-none-bare true None is = refl
-none-bare true (Some id) is = absurd (false≢true is)
-none-bare false None is = absurd (false≢true (sym is))
-none-bare false (Some id) is = refl
 
 -- the fault of an edit whose spaces can't be renewed is the bound, unless it is want of memory
 pub refused : (page : Contents) (edit : Edit) (why : BoundOrMemory) (fault : EditFault) → fault ≡ fault_of why → first_table_fault page edit ≡ None → (why ≡ unrenewed.Bound → is_bounded (edited page edit) ≡ false) →
